@@ -146,6 +146,9 @@ simple a 4
 area a 4 2
 length a 2 4 2
 distance a 4 LINESTRING (-5 15, 15 15)
+nearest a 3 POINT (5 5)
+reach a intersects 4
+reach a intersects 4 2 until a touches
 relate a 4 LINESTRING (-5 5, 15 5)
 match a T*F**F*** POLYGON ((0 0, 9 0, 9 9, 0 9, 0 0))
 query a intersects POLYGON ((4 4, 7 4, 7 7, 4 4))

@@ -84,6 +84,8 @@ FORMS = {
     b"area": ROWS,
     b"length": ROWS,
     b"distance": re.compile(rb"[0-9]+\.[0-9]{3} [0-9]+(?:/[0-9]+)?"),
+    b"nearest": ROWS,
+    b"reach": ROWS,
     b"relate": re.compile(rb"[F012]{9}"),
 }
 # Where a geometry is wrong, behind a refusal of `check`.
@@ -136,6 +138,9 @@ LINES = [
     b"relate a 1 POLYGON ((5 5, 95 5, 95 8, 5 8, 5 5))",
     b"distance a 1 POLYGON ((5 5, 95 5, 95 8, 5 8, 5 5))",
     b"query a near 2.5 POINT (5 5)",
+    b"nearest a 3 POINT (5 5)",
+    b"reach a intersects 1",
+    b"reach a intersects 1 until a touches",
     b"match a T*F**F*** POLYGON ((-9 -9, 99 -9, 99 99, -9 99, -9 -9))",
     b"query a intersects LINESTRING (0 0, 9 9)",
     b"query a disjoint POINT (1000 1000)",

@@ -40,6 +40,8 @@ HEADLINE: list[tuple[str, list[str]]] = [
     ("sf_valid_rules/src/laws.rt", []),
     ("sf_measure/src/laws.rt", []),
     ("sf_near/src/laws.rt", []),
+    ("sf_features/src/laws.rt", []),
+    ("sf_reach/src/laws.rt", []),
     ("sf_keeping/src/keeping.rt", ["serve_kept"]),
     ("sf_keeping/src/replaying.rt", ["replay"]),
     ("sf_keeping/src/laws.rt", []),
@@ -68,6 +70,7 @@ SUBJECTS: list[tuple[str, list[str]]] = [
     ("Areas and lengths", ["sf_measure"]),
     ("Matrices and predicates", ["sf_known", "sf_relate", "sf_query", "sf_joins"]),
     ("Distances", ["sf_distance", "sf_nearness", "sf_near"]),
+    ("Chains of features", ["sf_reach"]),
     (
         "Features, layers, edits and their inverses",
         ["sf_decimals", "sf_dates", "sf_refusals", "sf_features", "sf_layers", "sf_steps", "sf_edits"],

@@ -28,7 +28,7 @@ from sfstore.commands import candidates, help_text, near_words
 from sfstore.exchange import exporting, importing
 from sfstore.faults import fault_at, fault_of
 from sfstore.groups import size_of, text_of
-from sfstore.journal import JournalError
+from sfstore.journal import JournalError, path_of
 from sfstore.language import MEMBERS, words_of_line
 from sfstore.geometry import Shape
 from sfstore.lines import geometry_of, geometry_refused
@@ -256,8 +256,12 @@ class Console:
             self._answer(given)
 
     def _take_member(self, group: _Pending, line: str) -> None:
-        """Keeps a member, and sends the group when it has them all. One that can't be read is not kept."""
-        text = group.take(self._line_of(line), line)
+        """Keeps a member, and sends the group when it has them all. One that can't be read, or is not meant, is not kept."""
+        given = self._line_of(line)
+        if not self._is_meant(given):
+            print("It is not kept: give this member again, or leave the group by Ctrl-C.")
+            return
+        text = group.take(given, line)
         if text:
             self._group, self._members = None, group.typed
             self._answer(text)
@@ -404,7 +408,7 @@ class Console:
             self._save([])
         elif unsaved:
             stay = "It stays in {}, and is" if unsaved == 1 else "They stay in {}, and are"
-            print(f"{stay.format(self._path + '.journal')} there when it is opened again.")
+            print(f"{stay.format(path_of(os.path.realpath(self._path)))} there when it is opened again.")
         self._store.close(save=False)
         self._is_over = True
 

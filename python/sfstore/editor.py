@@ -11,7 +11,7 @@ from sfstore import edits, spelling, values
 from sfstore.group import Group
 from sfstore.language import QUESTIONS, words_of_line
 from sfstore.program import Link, batches
-from sfstore.results import Answer, Column, ColumnType, Distance, Feature, Kind, Layer, Predicate, Refused, Rule, RuleForm, Value
+from sfstore.results import Answer, Column, ColumnType, Distance, Feature, Kind, Layer, Near, Predicate, Refused, Rule, RuleForm, Value
 from sfstore.rows import feature_of, rule_of
 
 __all__ = ["Editor"]
@@ -535,6 +535,50 @@ class Editor:
         [1]
         """
         rows = self._rows(f"query {spelling.name(layer)} near {spelling.distance(distance)} {spelling.geometry(wkt)}")
+        return [int(row) for row in rows]
+
+    def nearest(self, layer: str, count: int, wkt: str) -> list[Near]:
+        """The features of a layer that are nearest to the given geometry, at most so many, the nearest first.
+
+        Each stands with its distance, over all points of both, in grid steps, rounded down to three places. They are in the order of their
+        exact distances; of those at one distance the lesser identifier comes first. ``count`` is from 1 to 1,000.
+
+        >>> with Store() as store:
+        ...     store.add_layer("wells")
+        ...     store.add("wells", "POINT (20 10)")
+        ...     store.add("wells", "POINT (3 4)")
+        ...     store.nearest("wells", 1, "LINESTRING (0 0, 3 0)")
+        1
+        2
+        [Near(feature_id=2, steps=Decimal('4.000'))]
+        """
+        rows = self._rows(f"nearest {spelling.name(layer)} {spelling.count(count)} {spelling.geometry(wkt)}")
+        return [Near(int(feature_id), Decimal(steps)) for feature_id, steps in map(str.split, rows)]
+
+    def reach(self, layer: str, ask: str, *feature_ids: int, until: tuple[str, str] | None = None) -> list[int]:
+        """What is linked with the given features: the identifiers of all to which a chain leads, theirs too, rising.
+
+        In a chain each feature is as asked with the next; ``ask`` is a predicate or a pattern. ``until`` names a layer and what is asked
+        with its features: a feature that is so with one of them is listed, and no chain goes on behind it.
+
+        >>> with Store() as store:
+        ...     store.add_layer("pipes")
+        ...     store.add_layer("valves")
+        ...     store.add("pipes", "LINESTRING (0 0, 9 0)")
+        ...     store.add("pipes", "LINESTRING (9 0, 9 9)")
+        ...     store.add("pipes", "LINESTRING (9 9, 0 9)")
+        ...     store.add("valves", "POINT (9 5)")
+        ...     store.reach("pipes", "touches", 1)
+        ...     store.reach("pipes", "touches", 1, until=("valves", "intersects"))
+        1
+        2
+        3
+        1
+        [1, 2, 3]
+        [1, 2]
+        """
+        end = f" until {spelling.name(until[0])} {spelling.ask(until[1])}" if until else ""
+        rows = self._rows(f"reach {spelling.name(layer)} {spelling.ask(ask)} {spelling.identifiers(feature_ids)}{end}")
         return [int(row) for row in rows]
 
     def join(self, layer: str, ask: str, other: str) -> Iterator[tuple[int, int]]:

@@ -7,6 +7,8 @@ from typing import Any
 
 import geopandas
 import pandas
+from pyproj import CRS
+from pyproj.exceptions import CRSError
 from shapely import wkt
 
 from sfstore.mapunits import MapUnits
@@ -32,8 +34,17 @@ def frame_of(columns: Sequence[Column], features: Sequence[Feature], beside: Sid
 
 
 def _system(beside: Sidecar | None) -> str | None:
-    """The reference system as geopandas takes it, where one is known."""
+    """The reference system as geopandas takes it, where one is known: by its text where its code is none that PROJ knows."""
     crs = beside.crs if beside else None
     if crs is None:
         return None
-    return f"{crs.authority}:{crs.code}" if crs.authority else crs.wkt
+    code = f"{crs.authority}:{crs.code}" if crs.authority else ""
+    return code if code and (not crs.wkt or _is_known(code)) else crs.wkt
+
+
+def _is_known(code: str) -> bool:
+    try:
+        CRS.from_user_input(code)
+    except CRSError:
+        return False
+    return True

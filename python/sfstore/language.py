@@ -220,6 +220,16 @@ COMMANDS = [
         "distance parcels 1 POINT (20 10)",
     ),
     Command(
+        "nearest LAYER N WKT",
+        "lists the N features of a layer that are nearest to a geometry, up to 1,000, with their distances",
+        "nearest wells 3 POINT (20 10)",
+    ),
+    Command(
+        "reach LAYER ASK ID",
+        "lists what chains lead to from one or up to 1,000 features; with until LAYER ASK behind them up to features that are so with one of that layer",
+        "reach roads touches 1 until wells intersects",
+    ),
+    Command(
         "relate LAYER ID WKT",
         "gives the DE-9IM matrix of a feature with a geometry",
         "relate parcels 1 POINT (5 5)",
@@ -273,7 +283,7 @@ MEMBERS = frozenset(command.word for command in COMMANDS if command.touches in (
 """The first words of the lines that may be members of a group."""
 
 _ADDRESS = re.compile(r"@[0-9]{1,3}")
-_WORDS_BEFORE_GEOMETRY = {"add": 2, "check": 2, "replace": 3, "distance": 3, "relate": 3, "match": 3, "query": 3}
+_WORDS_BEFORE_GEOMETRY = {"add": 2, "check": 2, "replace": 3, "distance": 3, "nearest": 3, "relate": 3, "match": 3, "query": 3}
 
 
 def edits_of(*touched: Touched) -> frozenset[str]:

@@ -232,6 +232,7 @@ _ROWS: dict[str, Callable[[MapUnits, str], str]] = {
     "area": MapUnits._area_row,
     "length": MapUnits._length_row,
     "distance": MapUnits._distance_row,
+    "nearest": MapUnits._length_row,
 }
 
 

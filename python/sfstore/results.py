@@ -22,6 +22,7 @@ __all__ = [
     "JournalError",
     "Kind",
     "Layer",
+    "Near",
     "PathName",
     "Place",
     "Predicate",
@@ -234,6 +235,16 @@ class Distance(NamedTuple):
 
     square: Fraction
     """The square of the distance, exact."""
+
+
+class Near(NamedTuple):
+    """A feature, and how far it is from a geometry, as `Store.nearest` lists it."""
+
+    feature_id: int
+    """The identifier of the feature."""
+
+    steps: Decimal
+    """The distance in grid steps, rounded down to three places."""
 
 
 class Layer(NamedTuple):

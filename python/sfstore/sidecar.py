@@ -7,8 +7,10 @@ program put a new file in the place of an old one, it writes the digests of both
 from __future__ import annotations
 
 import errno
+import itertools
 import json
 import os
+import re
 from collections.abc import Callable
 from dataclasses import asdict, dataclass, field
 from typing import Any
@@ -16,6 +18,7 @@ from typing import Any
 from sfstore import files
 
 __all__ = [
+    "LEFT_MAX",
     "ColumnOrigin",
     "Crs",
     "LayerOrigin",
@@ -31,10 +34,16 @@ __all__ = [
     "write",
 ]
 
+LEFT_MAX = 100_000
+"""How many features of a layer a side-car names at most that were left out, and as many that were taken without some values."""
+
 _FORMAT = "sfstore side-car 1"
+# What a layer has of features that were left out, which is written as ranges: 1-7 9.
+_LEFT = ("left_out", "without")
+_RANGE = re.compile("(-?[0-9]{1,20})(?:-(-?[0-9]{1,20}))?")
 # Why a file that is there can't be read just now, though it may be the next time.
 _PASSING = {errno.EAGAIN, errno.EINTR, errno.EIO, errno.EMFILE, errno.ENFILE, errno.ENOMEM, errno.ENOSPC, errno.ESTALE}
-_BESIDE = (".json", ".json.next", ".journal", ".journal.lock", ".lock", ".editors", ".batches")
+_BESIDE = (".json", ".json.next", ".journal", ".journal.lock", ".lock", ".editors", ".batches", ".styles")
 
 
 class SidecarError(Exception):
@@ -81,6 +90,12 @@ class LayerOrigin:
     geometry_column: str
     """The column of the geometries. Empty where the source names none."""
     columns: list[ColumnOrigin]
+    left_out: list[int] = field(default_factory=list)
+    """The features that the import has left out, by their identifiers in the source: the first ones, where they are many."""
+    without: list[int] = field(default_factory=list)
+    """The features that it has taken without some of their values, in the same way."""
+    left_columns: list[str] = field(default_factory=list)
+    """What it has left out of all features: columns, and ``Z or M``."""
 
 
 @dataclass(frozen=True)
@@ -96,8 +111,8 @@ class Sidecar:
 
 
 def path_of(store: str) -> str:
-    """The side-car's path, of the store's file."""
-    return store + ".json"
+    """The side-car's path, of the store's file: beside the file to which a link leads, as all that is kept beside it."""
+    return os.path.realpath(store) + ".json"
 
 
 def next_of(store: str) -> str:
@@ -107,7 +122,8 @@ def next_of(store: str) -> str:
 
 def beside(store: str) -> list[str]:
     """What a session keeps beside a store's file, and no map or report takes the place of."""
-    return [store + ending for ending in _BESIDE]
+    path = os.path.realpath(store)
+    return [path + ending for ending in _BESIDE]
 
 
 def settle(store: str) -> bool:
@@ -159,7 +175,8 @@ def _not_of(store: str) -> str:
 
 def write(store: str, found: Sidecar, digests: list[str]) -> None:
     """Writes the side-car of a store's file, whole or not at all, for files of these digests."""
-    content = {"format": _FORMAT, **asdict(found), "digests": digests}
+    layers = [_layer_told(layer) for layer in found.layers]
+    content = {"format": _FORMAT, **asdict(found), "layers": layers, "digests": digests}
     with files.whole_file(path_of(store), store) as beside:
         with open(beside, "w", encoding="utf-8") as file:
             # In ASCII, since half a pair of surrogates has no place in UTF-8.
@@ -219,7 +236,45 @@ def _sidecar(content: dict[str, Any]) -> Sidecar:
 
 def _layer(content: dict[str, Any]) -> LayerOrigin:
     columns = list(map(_column, content.pop("columns")))
-    return LayerOrigin(columns=columns, **_texts(content))
+    left_out, without = (_numbers(content.pop(name, "")) for name in _LEFT)
+    left_columns = content.pop("left_columns", [])
+    if not isinstance(left_columns, list) or not all(isinstance(name, str) for name in left_columns):
+        raise TypeError(f"{left_columns!r} is no list of names")
+    return LayerOrigin(columns=columns, left_out=left_out, without=without, left_columns=left_columns, **_texts(content))
+
+
+def _layer_told(layer: LayerOrigin) -> dict[str, Any]:
+    """A layer as it is written. Former versions know nothing of what was left out, and take a layer without it."""
+    told = asdict(layer)
+    told.update({name: _ranges(told[name]) for name in _LEFT})
+    return {name: each for name, each in told.items() if each or name not in (*_LEFT, "left_columns")}
+
+
+def _ranges(numbers: list[int]) -> str:
+    """Rising numbers as ranges.
+
+    >>> _ranges([1, 2, 3, 7])
+    '1-3 7'
+    """
+    words = []
+    for _, group in itertools.groupby(enumerate(numbers), lambda each: each[1] - each[0]):
+        each = [number for _, number in group]
+        words.append(f"{each[0]}-{each[-1]}" if len(each) > 1 else str(each[0]))
+    return " ".join(words)
+
+
+def _numbers(text: Any) -> list[int]:
+    """The numbers of ranges. `ValueError` where they are none, or more than an import names: a side-car may be a stranger's."""
+    found: list[int] = []
+    for word in text.split():
+        parts = _RANGE.fullmatch(word)
+        if parts is None:
+            raise ValueError(f"{word[:40]!r} is no range")
+        first, last = int(parts[1]), int(parts[2] or parts[1])
+        if last - first >= LEFT_MAX - len(found):
+            raise ValueError(f"more than {LEFT_MAX:,} features")
+        found += range(first, last + 1)
+    return found
 
 
 def _column(content: dict[str, Any]) -> ColumnOrigin:

@@ -11,6 +11,7 @@ from sfstore.groups import lines_of, size_of
 from sfstore.language import DISTANCE_LIMIT, DISTANCE_PLACES, EDITOR_MAX, IDENTIFIER_MAX, IDENTIFIERS_MAX, NAME, PATTERN, PREDICATES
 
 __all__ = [
+    "count",
     "distance",
     "editor",
     "encoded",
@@ -121,6 +122,13 @@ def distance(steps: int | Decimal) -> str:
     if not (steps.is_finite() and 0 <= steps < DISTANCE_LIMIT and steps == round(steps, DISTANCE_PLACES)):
         raise ValueError(f"{steps} is no distance: from 0 to below {DISTANCE_LIMIT} grid steps, with {DISTANCE_PLACES} places behind the point at most")
     return format(abs(steps), "f")
+
+
+def count(number: int) -> str:
+    """How many features are asked for: from 1 to 1,000."""
+    if not 1 <= integer(number) <= IDENTIFIERS_MAX:
+        raise ValueError(f"{number} is not from 1 to {IDENTIFIERS_MAX:,}")
+    return str(integer(number))
 
 
 def vertex(layer: str, which: str, part: int, ring: int, index: int) -> str:

@@ -8,6 +8,7 @@ import random
 import signal
 import time
 import unittest
+from functools import partial
 from unittest import mock
 
 from qgis.core import (
@@ -23,7 +24,7 @@ from qgis.core import (
     QgsVectorLayer,
     QgsVectorLayerUtils,
 )
-from qgis.gui import QgsGui
+from qgis.gui import QgsAttributeEditorContext, QgsAttributeForm, QgsGui
 from qgis.PyQt.QtCore import NULL, QDate, QDateTime, Qt, QTime, QVariant
 from qgis.PyQt.QtWidgets import QApplication, QLineEdit, QPushButton, QTextBrowser
 from qgis_support import CROSSED, SQUARE, Plugin, QgisCase, Session
@@ -35,6 +36,9 @@ from sfstore.exchange.grid import Grid
 from sfstore.language import COLUMN_TYPES, GRID_MAX, GRID_MIN, TEXT_MAX
 from sfstore.rows import feature_of
 from sfstore.web.client import CallFailed, Client
+
+
+FINE = "POLYGON ((0 0, 1000 0, 1000 1001, 3 1003, 0 0))"
 
 
 class Reading(unittest.TestCase):
@@ -124,6 +128,19 @@ class Opening(QgisCase):
         self.assertTrue(QgsProject.instance().read(file))
         self.assertEqual(self.layer().featureCount(), 200)
         self.assertEqual(len(self.plugin.editings), 3)
+
+    def test_a_project_whose_store_is_not_there_makes_none(self):
+        project = str(self.folder / "town.qgs")
+        QgsProject.instance().write(project)
+        before = {path.name for path in self.folder.iterdir()}
+        missing = self.folder / "missing"
+        missing.mkdir()
+        text = (self.folder / "town.qgs").read_text().replace("./town.sfs|", "./missing/town.sfs|")
+        (self.folder / "other.qgs").write_text(text.replace(f"{self.path}|", f"{missing}/town.sfs|"))
+        QgsProject.instance().read(str(self.folder / "other.qgs"))
+        self.turn(0.3)
+        self.assertEqual({layer.isValid() for layer in QgsProject.instance().mapLayers().values()}, {False})
+        self.assertEqual((list(missing.iterdir()), {path.name for path in self.folder.iterdir()} - before), ([], {"missing", "other.qgs"}))
 
     def test_a_side_car_of_another_file_is_told(self):
         path = self.folder / "other.sfs"
@@ -318,6 +335,26 @@ class Commits(QgisCase):
         self.assert_alike()
 
 
+class FineGrids(QgisCase):
+    """A grid whose step is finer than doubles are where the map lies: QGIS does not tell its points apart."""
+
+    lines = f"layer add parcels polygon\ncolumn add parcels owner text\nadd parcels {FINE}\n".encode()
+    grid = ("5600000", "5600000", "0.0000000001")
+
+    def test_a_geometry_is_not_sent_and_values_are(self):
+        parcels = self.layer()
+        parcels.startEditing()
+        corner = self.feature(1).geometry().vertexAt(2)
+        parcels.moveVertex(corner.x() + 1e-7, corner.y(), self.fid(1), 2)
+        self.assertFalse(parcels.commitChanges())
+        self.assertIn("the step of the grid is finer than QGIS' doubles are there", " ".join([*self.said(), *parcels.commitErrors()]))
+        parcels.rollBack()
+        parcels.startEditing()
+        self.set(1, "owner", "Ann's")
+        self.assertTrue(parcels.commitChanges(), parcels.commitErrors())
+        self.assertEqual(self.stored(), {1: f"1 {FINE} owner='Ann''s'"})
+
+
 class Columns(QgisCase):
     """Columns and layers."""
 
@@ -384,6 +421,32 @@ class Columns(QgisCase):
         self.assertIn("New in the store: trees", " ".join(self.said()))
         self.plugin.open(str(self.path))
         self.assertEqual(self.layer("trees").featureCount(), 1)
+        self.assert_alike()
+
+    def test_a_layer_with_edits_that_were_not_sent_is_not_dropped(self):
+        parcels = self.layer()
+        parcels.startEditing()
+        self.set(2, "owner", "not sent")
+        self.plugin.drop_layer(self.plugin.editings[parcels.id()])
+        self.assertIn("parcels has edits that the store has not: save them, or take them back first.", self.said())
+        self.assertEqual((len(self.session.layers()), self.feature(2)["owner"]), (3, "not sent"))
+        self.assertTrue(parcels.commitChanges(), parcels.commitErrors())
+        self.plugin.drop_layer(self.plugin.editings[parcels.id()])
+        self.settle()
+        self.assertEqual(len(QgsProject.instance().mapLayers()), 2)
+        self.plugin.move("undo")
+        self.settle()
+        self.assertIn("owner='not sent'", self.stored()[2])
+
+    def test_columns_of_a_layer_that_has_left_the_project(self):
+        ben = self.ben()
+        QgsProject.instance().removeMapLayer(self.layer("wells").id())
+        self.turn()
+        # What a slot raises ends this process.
+        self.bens(ben, "column add wells extra int", "column drop wells depth", "set wells 1 extra 7")
+        self.assertEqual(self.said(), [])
+        self.plugin.open(str(self.path))
+        self.assertEqual(self.feature(1, self.layer("wells"))["extra"], 7)
         self.assert_alike()
 
     def test_a_layer_that_another_one_drops_and_brings_back(self):
@@ -828,7 +891,8 @@ class FieldsOfOne(QgisCase):
         parcels.startEditing()
         self.assertTrue(parcels.addAttribute(TEXT))
         self.draw(SQUARE, owner="Ann", mine="M")
-        ben.call("batch", page="ben", lines=["column add parcels theirs text", "set parcels 3 theirs 'B'"], seen=[None, 99])
+        seen = [None, ben.call("map")["version"]]
+        ben.call("batch", page="ben", lines=["column add parcels theirs text", "set parcels 3 theirs 'B'"], seen=seen)
         self.turn(0.3)
         self.assertTrue(self.stored()[7].endswith("owner='Ann' mine='M'"), self.stored()[7])
         self.assertEqual(parcels.fields().names(), ["_id", "number", "owner", "mine", "theirs"])
@@ -1120,6 +1184,20 @@ class AtOnce(QgisCase):
         self.assertEqual(self.feature(7)["owner"], "Ben's")
         self.assert_alike()
 
+    def test_what_was_refused_is_done_again_once_it_was_looked_at(self):
+        ben, parcels = self.ben(), self.layer()
+        parcels.startEditing()
+        version = ben.call("map")["version"]
+        ben.call("batch", page="ben", lines=["set parcels 7 owner 'Ben''s'"], seen=[version])
+        self.set(7, "owner", "Ann's")
+        self.plugin.send()
+        self.assertIn("Ben changed parcels 7 meanwhile: look again.", " ".join(self.said()))
+        self.settle()
+        self.set(7, "owner", "Ann's")
+        self.turn()
+        self.assertEqual(self.said(), [])
+        self.assertIn("owner='Ann''s'", self.stored()[7])
+
     def test_layers_that_are_edited_in_one_turn_are_one_step(self):
         parcels, wells = self.layer(), self.layer("wells")
         parcels.startEditing()
@@ -1273,6 +1351,26 @@ class Others(QgisCase):
         self.assertIn("Refused (36 NotYours): the step is another editor's (Ben: set parcels 7", " ".join(self.said()))
         self.assertIn("Ben''s", self.stored()[7])
 
+    def test_of_several_stores_one_has_to_be_chosen(self):
+        other = self.folder / "trees.sfs"
+        self.make(b"layer add trees point\nadd trees POINT (1 1)\n", other)
+        self.plugin.open(str(other))
+        parcels = self.layer()
+        parcels.startEditing()
+        self.set(7, "owner", "Ann's")
+        self.assertTrue(parcels.commitChanges())
+        self.settle()
+        for act in (partial(self.plugin.move, "undo"), self.plugin.save):
+            self.plugin.tried(act)
+            self.assertIn("Several stores are open: choose a layer of the one that is meant.", self.said())
+            self.assertIn("owner='Ann''s'", self.stored()[7])
+        self.plugin.add_layer("bushes", "point")
+        self.assertEqual([layer["name"] for layer in Session.of(str(other)).layers()], ["trees", "bushes"])
+        self.window.make_active(parcels)
+        self.plugin.move("undo")
+        self.settle()
+        self.assertNotIn("owner='Ann''s'", self.stored()[7])
+
     def test_the_stores_undo_waits_for_what_was_not_sent(self):
         self.layer().startEditing()
         self.set(7, "owner", "x")
@@ -1295,6 +1393,60 @@ class Others(QgisCase):
         self.settle()
         self.assert_alike()
         self.assertEqual(parcels.featureCount(), 201)
+
+
+class Unseen(QgisCase):
+    """What others change while somebody is at work on it."""
+
+    unseen_seconds = 1.0
+
+    def test_an_edit_a_moment_behind_a_change_was_begun_before(self):
+        ben, parcels = self.ben(), self.layer()
+        parcels.startEditing()
+        self.bens(ben, "vertex insert parcels 7 0 0 1 1090 -20", "set parcels 8 owner 'Ben''s'")
+        # A vertex that was on its way when Ben's came has another number now.
+        parcels.moveVertex(500130, 5600001, self.fid(7), 2)
+        self.assertFalse(parcels.commitChanges())
+        self.assertIn("Ben changed parcels 7 meanwhile: look again.", " ".join([*self.said(), *parcels.commitErrors()]))
+        parcels.rollBack()
+        self.turn(1.1)
+        parcels.startEditing()
+        self.set(8, "owner", "Ann's")
+        self.assertTrue(parcels.commitChanges(), parcels.commitErrors())
+
+    def test_a_form_that_was_open_before_does_not_overwrite_what_has_changed(self):
+        QgsGui.editorWidgetRegistry().initEditors()
+        ben, parcels = self.ben(), self.layer()
+        parcels.startEditing()
+        form = QgsAttributeForm(parcels, self.feature(7), QgsAttributeEditorContext())
+        form.show()
+        self.addCleanup(form.close)
+        self.bens(ben, "set parcels 7 owner 'Ben''s'")
+        self.turn(1.1)
+        form.changeAttribute("number", 77)
+        self.assertTrue(form.save())
+        self.assertFalse(parcels.commitChanges())
+        self.assertIn("Ben changed parcels 7 meanwhile: look again.", " ".join([*self.said(), *parcels.commitErrors()]))
+        parcels.rollBack()
+        parcels.startEditing()
+        form.setFeature(self.feature(7))
+        form.changeAttribute("number", 78)
+        self.assertTrue(form.save())
+        self.assertTrue(parcels.commitChanges(), parcels.commitErrors())
+        self.assertTrue(self.stored()[7].endswith("number=78 owner='Ben''s'"))
+
+    def test_ones_own_edits_are_no_news(self):
+        parcels = self.layer()
+        for owner in ("first", "second"):
+            parcels.startEditing()
+            self.set(7, "owner", owner)
+            self.assertTrue(parcels.commitChanges(), parcels.commitErrors())
+            self.settle()
+        self.plugin.move("undo")
+        self.settle()
+        parcels.startEditing()
+        self.set(7, "owner", "third")
+        self.assertTrue(parcels.commitChanges(), parcels.commitErrors())
 
 
 class Lost(QgisCase):

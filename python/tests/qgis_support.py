@@ -12,6 +12,7 @@ import os
 import sys
 import time
 from decimal import Decimal
+from unittest import mock
 
 from support import FOLDER, PROGRAM
 from web_support import TOWN, WebCase
@@ -39,6 +40,7 @@ def _told(*error):
 
 sys.excepthook = _told
 
+from sfstore_qgis import editing as at_work  # noqa: E402
 from sfstore_qgis import session  # noqa: E402
 from sfstore_qgis.plugin import Plugin  # noqa: E402
 from sfstore_qgis.session import Session  # noqa: E402
@@ -103,12 +105,18 @@ class QgisCase(WebCase):
 
     SECONDS = 300
     lines = TOWN.read_bytes()
+    grid = SIDECAR["grid"]
     at_once = False
+    unseen_seconds = 0.0
 
     def setUp(self):
         super().setUp()
         self.make(self.lines)
         self.place(self.path)
+        # A test has seen what it waited for. Those of what it has not seen say so.
+        unseen = mock.patch.object(at_work, "UNSEEN_SECONDS", self.unseen_seconds)
+        unseen.start()
+        self.addCleanup(unseen.stop)
         QgsSettings().setValue("sfstore/name", "Ann")
         QgsSettings().setValue("sfstore/at_once", self.at_once)
         Session.program = PROGRAM
@@ -121,7 +129,7 @@ class QgisCase(WebCase):
 
     def place(self, path):
         """Writes the side-car of a store's file."""
-        told = {**SIDECAR, "digests": [files.digest(str(path))]}
+        told = {**SIDECAR, "grid": self.grid, "digests": [files.digest(str(path))]}
         path.with_name(path.name + ".json").write_text(json.dumps(told))
 
     def end(self):

@@ -123,6 +123,10 @@ class Tour:
         self.note("not mine", self.bars())
 
     def buffered(self):
+        from sfstore_qgis.editing import UNSEEN_SECONDS
+
+        # Nobody has seen what came a moment ago.
+        wait(UNSEEN_SECONDS)
         self.plugin.switch.setChecked(False)
         fid = self.fid(7)
         self.parcels.changeAttributeValue(fid, self.parcels.fields().indexOf("owner"), "Ann's")

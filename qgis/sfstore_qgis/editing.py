@@ -2,20 +2,25 @@
 
 from __future__ import annotations
 
-from collections.abc import Sequence
+import time
+from collections.abc import Iterable, Sequence
 from typing import Any, NamedTuple
 
-from qgis.core import QgsVectorLayer
+from qgis.core import QgsFeature, QgsVectorLayer
 
 from sfstore.exchange.grid import Rounding
 from sfstore.results import Column
 from sfstore.web.client import ServerGone
 
 from .fields import FieldsDiffer, check_layer, names_of
+from .forms import shown_in_forms
 from .provider import Outcome, Provider
 from .writing import Edits, Line, added_numbers
 
 __all__ = ["Editing", "commit", "prepare"]
+
+# So long after others have changed a feature an edit of it may have been begun before: a vertex was on its way.
+UNSEEN_SECONDS = 3.0
 
 
 class _Seen(NamedTuple):
@@ -24,6 +29,15 @@ class _Seen(NamedTuple):
     version: int
     """The version of the store."""
     content: tuple[Any, ...]
+
+
+class _News(NamedTuple):
+    """What others have changed of a feature lately."""
+
+    at: float
+    """When it was heard."""
+    before: int
+    """The version of the store before."""
 
 
 class _Begun(NamedTuple):
@@ -51,6 +65,7 @@ class Editing:
         # The commands of QGIS' undo stack from here on were not sent.
         self.base = 0
         self._seen: dict[int, _Seen] = {}
+        self._news: dict[int, _News] = {}
         # The version and the columns that were seen when the first of what was not sent was done.
         self._begun: _Begun | None = None
 
@@ -86,7 +101,37 @@ class Editing:
         self.touch_columns()
         number = self.provider.mirror.numbers.get(fid)
         if number is not None and number not in self._seen:
-            self._seen[number] = _Seen(self.session.version, self._content(number))
+            self._seen[number] = self._seen_now(fid, number)
+
+    def _seen_now(self, fid: int, number: int) -> _Seen:
+        """What the user sees of a feature: not what has come a moment ago, nor what an open form does not show."""
+        news = self._news.get(number)
+        if news is not None and time.monotonic() < news.at + UNSEEN_SECONDS:
+            return _Seen(news.before, ())
+        if any(not self._is_as_stored(number, shown) for shown in shown_in_forms(fid, number)):
+            return _Seen(0, ())
+        return _Seen(self.session.version, self._content(number))
+
+    def _is_as_stored(self, number: int, shown: QgsFeature) -> bool:
+        """Whether a form shows the values that the store has. One with other fields is that of another layer."""
+        if shown.fields().names() != self.layer.fields().names():
+            return True
+        stored = self.provider.mirror.memory_feature(number)
+        names = [field.name() for field in stored.fields()]
+        return all(shown.attribute(name) == stored.attribute(name) for name in names if shown.fields().indexOf(name) >= 0)
+
+    def hear(self, numbers: Iterable[int], before: int) -> None:
+        """Notes features that others have changed, behind a version of the store."""
+        now = time.monotonic()
+        self._news = {number: news for number, news in self._news.items() if now < news.at + UNSEEN_SECONDS}
+        self._news.update({number: self._news.get(number, _News(now, before))._replace(at=now) for number in numbers})
+
+    def forget_taken_back(self) -> None:
+        """Forgets what was seen of what was refused and taken back: who edits it again has looked at it again."""
+        touched = self.touched()
+        self._seen = {number: seen for number, seen in self._seen.items() if number in touched}
+        if not self.layer.isModified():
+            self._begun = None
 
     def touch_columns(self) -> None:
         """Notes which columns the user sees, where it is their first edit."""

@@ -8,6 +8,7 @@ from functools import partial
 from typing import Any
 
 from qgis.core import Qgis, QgsApplication, QgsMapLayer, QgsProject, QgsSettings, QgsVectorLayer
+from qgis.PyQt import sip
 from qgis.PyQt.QtCore import Qt, QTimer
 from qgis.PyQt.QtWidgets import QAction, QApplication, QFileDialog, QInputDialog, QLineEdit
 
@@ -130,8 +131,8 @@ class Plugin:
             self.add_layer(name, kind)
 
     def add_layer(self, name: str, kind: str) -> None:
-        """Adds a layer to the store."""
-        session = self._session()
+        """Adds a layer to the store of the active layer, else to the one that was opened last: it may have no layer yet."""
+        session = (None if self.active() else self._opened_last()) or self._session()
         session.line(f"layer add {name} {kind}")
         self.open(session.path)
 
@@ -141,9 +142,13 @@ class Plugin:
             self.drop_layer(editing)
 
     def drop_layer(self, editing: Editing) -> None:
-        """Removes a layer from the store and from the project. Undo brings it back."""
-        editing.session.line(f"layer drop {editing.provider.source.layer}")
-        QgsProject.instance().removeMapLayer(editing.key)
+        """Removes a layer from the store and from the project, once all of its edits are sent. Undo brings it back."""
+        name = editing.provider.source.layer
+        # A layer of any kind is in the project as several.
+        those = [each for each in self._of(editing.session) if each.provider.source.layer == name]
+        if self._are_sent(those):
+            editing.session.line(f"layer drop {name}")
+            QgsProject.instance().removeMapLayers([each.key for each in those])
 
     def choose_link(self) -> None:
         window = self._iface.mainWindow()
@@ -203,9 +208,9 @@ class Plugin:
         self._connect(layer.attributeDeleted, lambda *_: editing.touch_columns())
         self._connect(layer.undoStack().indexChanged, partial(self._send_soon, editing))
         mirror.changed.connect(layer.triggerRepaint)
-        mirror.columns_changed.connect(layer.updateFields)
-        self._connect(mirror.columns_changed, partial(self._check, editing))
-        self._connect(mirror.given_up, partial(self._give_up, editing))
+        mirror.columns_changed.connect(partial(_update_fields, layer))
+        self._connect_while_shown(editing, mirror.columns_changed, partial(self._check, editing))
+        self._connect_while_shown(editing, mirror.given_up, partial(self._give_up, editing))
 
     def _follow_session(self, session: Session) -> None:
         if session.path not in self._sessions:
@@ -227,6 +232,15 @@ class Plugin:
                 slot(*words)
 
         signal.connect(follow)
+
+    def _connect_while_shown(self, editing: Editing, signal: Any, slot: Callable[..., object]) -> None:
+        """Has a slot follow a signal that may outlive a layer, as long as the layer is in the project."""
+
+        def follow(*words: object) -> None:
+            if self.editings.get(editing.key) is editing:
+                slot(*words)
+
+        self._connect(signal, follow)
 
     def _of(self, session: Session) -> list[Editing]:
         return [each for each in self.editings.values() if each.session is session]
@@ -352,6 +366,7 @@ class Plugin:
         if not isinstance(fault, ServerGone):
             for each in editings:
                 _take_back(each)
+                each.forget_taken_back()
                 self._look_at(each)
 
     # What is drawn and not sent yet is asked about.
@@ -404,23 +419,33 @@ class Plugin:
         active = self.active()
         if active is not None:
             return active.session  # type: ignore[no-any-return]
-        for editing in self.editings.values():
-            return editing.session  # type: ignore[no-any-return]
-        if self._opened is not None and self._opened.path in self._sessions:
-            return self._opened
-        raise LayerRefused("No store is open: open one first.")
+        sessions: dict[str, Session] = {each.session.path: each.session for each in self.editings.values()}
+        if (opened := self._opened_last()) is not None:
+            sessions[opened.path] = opened
+        if not sessions:
+            raise LayerRefused("No store is open: open one first.")
+        if len(sessions) > 1:
+            raise LayerRefused("Several stores are open: choose a layer of the one that is meant.")
+        return next(iter(sessions.values()))
+
+    def _opened_last(self) -> Session | None:
+        """The store that was opened last, where it is open still."""
+        return self._opened if self._opened is not None and self._opened.path in self._sessions else None
 
     def move(self, verb: str) -> None:
         """Undo or redo in the store."""
         session = self._session()
-        for each in self._of(session):
+        if self._are_sent(self._of(session)):
+            session.line(verb)
+
+    def _are_sent(self, editings: Iterable[Editing]) -> bool:
+        """Whether layers have no edits that the store has not. The first one that has some is told."""
+        for each in editings:
             if each.layer.isModified():
-                self.teller.tell(
-                    f"{each.layer.name()} has edits that the store has not: save them, or take them back first.",
-                    Qgis.Warning,
-                )
-                return
-        session.line(verb)
+                words = f"{each.layer.name()} has edits that the store has not: save them, or take them back first."
+                self.teller.tell(words, Qgis.Warning)
+                return False
+        return True
 
     def save(self) -> None:
         """Saves the store: the history begins anew, for all."""
@@ -431,14 +456,13 @@ class Plugin:
     def _heard(self, session: Session, event: dict[str, Any]) -> None:
         """Says where somebody else has changed what is being edited here."""
         self.history.look()
-        if not session.is_connected or event["number"] == session.editor:
+        if not session.is_connected or event["is_own"]:
             return
         for editing in self._of(session):
-            if not editing.layer.isEditable():
-                continue
             layer = editing.provider.source.layer
-            changed = {change["id"] for change in event["changed"] if change["layer"] == layer}
-            both = sorted(changed & editing.touched())
+            changed = {change["id"] for change in event["changed"] if change["layer"] == layer} - {None}
+            editing.hear(changed, event["before"])
+            both = sorted(changed & editing.touched()) if event["number"] != session.editor else []
             if both:
                 what = f"{event['editor']} has changed what you are changing too: {layer} {', '.join(map(str, both))}"
                 self.teller.tell(f"{what}. Give your change up, look at it, and do it again.", Qgis.Warning)
@@ -480,6 +504,12 @@ def _wait_cursor() -> Iterator[None]:
 
 def _title(source: provider.Source) -> str:
     return f"{source.layer} ({source.kind})" if source.kind else source.layer
+
+
+def _update_fields(layer: QgsVectorLayer) -> None:
+    """Has a layer that is there still, with the plugin or without, take over the fields of its provider."""
+    if not sip.isdeleted(layer):
+        layer.updateFields()
 
 
 def _set_precision(editing: Editing) -> None:

@@ -11,7 +11,7 @@ from typing import Any, ClassVar
 from qgis.core import QgsCoordinateReferenceSystem, QgsMessageLog, QgsSettings
 from qgis.PyQt.QtCore import QObject, QSocketNotifier, QThread, QTimer, pyqtSignal
 
-from sfstore import sidecar
+from sfstore import journal, sidecar
 from sfstore.exchange.grid import Grid
 from sfstore.results import Column
 from sfstore.web.client import CallFailed, Client, Events, ServerGone, start_server
@@ -53,7 +53,7 @@ class Session(QObject):
     """A store's file in this QGIS. `ServerGone` where no server of it can be had."""
 
     edited = pyqtSignal(dict)
-    """An edit, or an undo, of whomever: as the server tells it."""
+    """An edit, or an undo, of whomever: as the server tells it, with the version ``before``, and whether it ``is_own``."""
     layers_changed = pyqtSignal()
     """There are other layers than before."""
     kind_hidden = pyqtSignal(str, str)
@@ -68,9 +68,11 @@ class Session(QObject):
 
     @staticmethod
     def of(path: str) -> Session:
-        """The session of a store's file, one for each."""
+        """The session of a store's file, one for each. `LayerRefused` where no store is there: a server would begin one."""
         path = os.path.realpath(path)
         if path not in Session.open:
+            if not os.path.isfile(path) and not os.path.isfile(journal.path_of(path)):
+                raise LayerRefused(f"{path} is no store that is there")
             Session.open[path] = Session(path)
         return Session.open[path]
 
@@ -319,9 +321,9 @@ class Session(QObject):
             if verb in event:
                 self.steps[verb] = event[verb]
         if "changed" in event:
-            self.version = event["version"]
+            before, self.version = self.version, event["version"]
             self._own.discard(self.version)
-            self.edited.emit(event)
+            self.edited.emit({**event, "before": before, "is_own": event["page"] == self._token})
             if any(change["what"] == "layers" for change in event["changed"]):
                 self.layers_changed.emit()
 

@@ -98,13 +98,16 @@ def wkt_of(geometry: QgsGeometry, layer: Layer, rounding: Rounding) -> str:
         raise NotSent("a feature without a geometry has no place in the store: draw one")
     try:
         shape = read_wkb(bytes(_fitted(geometry, layer.kind).asWkb()))
-        return write_wkt(shape.mapped(lambda line: layer.grid.steps(line, rounding)))
+        steps = shape.mapped(lambda line: layer.grid.steps(line, rounding))
     except NotTaken as error:
         raise NotSent(f"the store takes no such geometry: {error}") from None
     except (Outside, OffGrid) as error:
         raise NotSent(f"{error} is further from the origin of the grid than the store reaches") from None
     except struct.error as error:
         raise NotSent(f"the geometry can't be read: {error}") from None
+    if not all(layer.grid.tells_apart(line) for member in shape.members for line in member):
+        raise NotSent("the step of the grid is finer than QGIS' doubles are there, and points would move: edit it on the page")
+    return write_wkt(steps)
 
 
 def _fitted(geometry: QgsGeometry, kind: str) -> QgsGeometry:

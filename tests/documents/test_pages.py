@@ -108,6 +108,9 @@ class Learned(PageCase):
     def test_how_to_recover(self):
         self.compare("use/RECOVER.md")
 
+    def test_how_to_follow_a_network(self):
+        self.compare("use/FOLLOW_A_NETWORK.md")
+
     @unittest.skipUnless(find_spec("geopandas"), "no geopandas (python3-geopandas)")
     def test_how_to_use_geopandas(self):
         self.compare("use/GEOPANDAS.md")
@@ -123,6 +126,16 @@ match nosuch TTTTTTTTT POINT (1.5 2): 3
 query nosuch contains LINESTRING (1 1, 1 1): 10
 distance nosuch 1 LINESTRING (1 1, 1 1): 10
 distance nosuch 1 POINT (1 1): 18
+nearest nosuch 0 POINT (1: 31
+nearest nosuch 1 POINT (1: 2
+nearest nosuch 1 LINESTRING (1 1, 1 1): 10
+nearest nosuch 1 POINT (1 1): 18
+reach nosuch T x: 31
+reach nosuch T 1: 32
+reach nosuch touches 1: 18
+reach nosuch touches 1 until nosuch T: 32
+reach p touches 999 until nosuch touches: 18
+reach p touches 999: 21
 relate nosuch 1 LINESTRING (1 1, 1 1): 10
 add nosuch POINT (1.5 1): 3
 add nosuch LINESTRING (1 1, 1 1): 18

@@ -73,6 +73,8 @@ SESSION = [
     *(f"check a {geometry}" for geometry in GEOMETRIES),
     f"distance a 1 {GEOMETRIES[2]}",
     f"query a near 1.5 {GEOMETRIES[0]}",
+    f"nearest a 5 {GEOMETRIES[0]}",
+    "reach a intersects 1 2 until a touches",
     f"relate a 1 {GEOMETRIES[2]}",
     f"query a intersects {GEOMETRIES[0]}",
     f"match a ****1**** {GEOMETRIES[5]}",

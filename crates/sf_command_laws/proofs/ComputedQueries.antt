@@ -6,7 +6,8 @@ use Rattle.sf_geometry.specs.declared.geometry.Geometry.{Geometry}
 use Rattle.sf_geometry.specs.declared.geometry.Geometry.TheVariants as geometries
 use Rattle.sf_known.specs.declared.letter.Letter.TheVariants.{Any, Filled, Empty as Unfilled, Zero, One, Two}
 use Rattle.sf_known.specs.declared.predicate.Predicate.TheVariants as predicates
-use Rattle.sf_commands.specs.declared.command.Command.TheVariants.{Distance, Relate, Match, Query, Near}
+use Rattle.sf_query.specs.declared.ask.Ask.TheVariants.{Named}
+use Rattle.sf_commands.specs.declared.command.Command.TheVariants.{Distance, Nearest, Reach, ReachUntil, Relate, Match, Query, Near}
 use Rattle.sf_commands.specs.Commands.{command_of}
 
 abbrev point : Geometry
@@ -21,6 +22,27 @@ related = (refl, refl)
 
 distant : (command_of (codes "distance p 3 POINT (1 -2)") ≡ Ok (0, Distance (codes "p") 3 point)) × (command_of (codes "@7 distance  p 03\tpoint(1 -2) ") ≡ Ok (7, Distance (codes "p") 3 point))
 distant = (refl, refl)
+
+-- 1 to 1,000 of the nearest
+nearest : (command_of (codes "nearest p 3 POINT (1 -2)") ≡ Ok (0, Nearest (codes "p") 3 point)) × (command_of (codes "@7 nearest  p\t0001000 point(1 -2)") ≡ Ok (7, Nearest (codes "p") 1000 point))
+nearest = (refl, refl)
+
+faults_of_nearest : IsRefused (codes "nearest p 0 POINT (1 -2)") BadCommand × IsRefused (codes "nearest p 1001 POINT (1 -2)") BadCommand × IsRefused (codes "nearest p x POINT (1 -2)") BadCommand
+    × IsRefused (codes "nearest p 1") BadCommand × IsRefused (codes "nearest p 1 LINESTRING (1 1, 1 1)") ShortLine × IsRefused (codes "nearest p 0 LINESTRING (1 1, 1 1)") BadCommand
+faults_of_nearest = (refl, refl, refl, refl, refl, refl)
+
+-- chains from features, without an end and with one; a layer may have the name `until`
+reach : (command_of (codes "reach p touches 17") ≡ Ok (0, Reach (codes "p") (Named predicates.Touches) (17 ∷ [])))
+    × (command_of (codes "@7 reach p  touches 17\t0018 17 ") ≡ Ok (7, Reach (codes "p") (Named predicates.Touches) (17 ∷ 18 ∷ 17 ∷ [])))
+    × (command_of (codes "reach p touches 17 until v intersects") ≡ Ok (0, ReachUntil (codes "p") (Named predicates.Touches) (17 ∷ []) (codes "v") (Named predicates.Intersects)))
+    × (command_of (codes "reach until touches 17 until until within") ≡ Ok (0, ReachUntil (codes "until") (Named predicates.Touches) (17 ∷ []) (codes "until") (Named predicates.Within)))
+reach = (refl, refl, refl, refl)
+
+-- words are looked at before patterns, and the first pattern before the second
+faults_of_chains : IsRefused (codes "reach p touches") BadCommand × IsRefused (codes "reach p touches until v intersects") BadCommand × IsRefused (codes "reach p touches x") BadCommand
+    × IsRefused (codes "reach p touches 1 until") BadCommand × IsRefused (codes "reach p touches 1 until v") BadCommand × IsRefused (codes "reach p touches 1 until v within x") BadCommand
+    × IsRefused (codes "reach p touch 1") BadPattern × IsRefused (codes "reach p touch x") BadCommand × IsRefused (codes "reach p touches 1 until v in") BadPattern × IsRefused (codes "reach p touch 1 until v") BadCommand
+faults_of_chains = (refl, refl, refl, refl, refl, refl, refl, refl, refl, refl)
 
 -- a distance in thousandths of a grid step
 near : (command_of (codes "query p near 2 POINT (1 -2)") ≡ Ok (0, Near (codes "p") 2000 point))

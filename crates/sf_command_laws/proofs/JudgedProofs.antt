@@ -1,5 +1,5 @@
 -- Geometries that features are compared with are judged over all points of the plane.
-use Rattle.std.proofs.Common.{◌≡◌, ℕ, ℤ, Bool, true, false, nat_lt, bytes_eq, codes, List, [], ◌∷◌, length, Option, None, Some, ok_or, Result, Ok, Err, IfErr, IfOk, if◌then◌else◌, refl, sym, ap, ◌∙◌, subst, true≢false}
+use Rattle.std.proofs.Common.{◌≡◌, ℕ, ℤ, Bool, true, false, ◌&&◌, nat_le, nat_lt, bytes_eq, codes, List, [], ◌∷◌, length, Option, None, Some, ok_or, Result, Ok, Err, IfErr, IfOk, if◌then◌else◌, refl, sym, ap, ◌∙◌, subst, true≢false}
 use Rattle.std.specs.List.{AllByRecursion}
 use Rattle.hex.specs.declared.error.FromHexError.{FromHexError}
 use Rattle.hex.specs.Hex.{decode_of}
@@ -34,7 +34,7 @@ use Rattle.sf_rules.specs.declared.rule.Form.{Form}
 use Rattle.sf_rules.specs.declared.rule.Form.TheVariants.{Never, Each}
 use Rattle.sf_steps.specs.declared.edit.Edit.TheVariants as edits
 use Rattle.sf_commands.specs.declared.command.Command.{Command}
-use Rattle.sf_commands.specs.declared.command.Command.TheVariants.{Edit, Undo, Redo, Layers, Columns, Rules, Show, Get, Hex, Simple, Extent, Measured, Distance, Relate, Match, Query, Near}
+use Rattle.sf_commands.specs.declared.command.Command.TheVariants.{Edit, Undo, Redo, Layers, Columns, Rules, Show, Get, Hex, Simple, Extent, Measured, Distance, Nearest, Relate, Match, Query, Near}
 use Rattle.sf_words.specs.declared.naming.Naming.TheVariants.{ById}
 use Rattle.sf_words.specs.declared.verb.Verb.{Verb}
 use Rattle.sf_words.specs.declared.verb.Verb.TheVariants as verbs
@@ -48,7 +48,7 @@ use Rattle.sf_words.specs.Verbs.{action_of, verb_of}
 use Rattle.sf_words.specs.Naming.{given, id_of, vertex_place}
 use Rattle.sf_words.specs.Editors.{addressed, behind_at, by_digits, by_first_word, editor_of}
 use Rattle.sf_values.specs.Kinds.{column_type_of, layer_kind_of, predicate_of}
-use Rattle.sf_commands.specs.Commands.{add_arguments, add_column, check_arguments, add_layer, add_rule, addhex_arguments, addressed_command, after_two_words, alone, ask_by, ask_of, by_editor, by_verb, by_words, bytes_command, column_arguments, column_command, delete_arguments, drop_column, drop_layer, drop_rule, faultless, feature_arguments, feature_command, feature_named, features_arguments, features_command, find_arguments, form_of, join_arguments, join_by, beside_of, hex_command, ids_of, insert_vertex, layer_arguments, layer_command, made, match_arguments, move_layer, move_vertex, of_layer, of_text, query_arguments, remove_vertex, rename_layer, replace_arguments, rule_arguments, rule_asked, rule_command, second_of, set_arguments, sought_of, unset_arguments, valid_of, vertex_arguments, vertex_command, with_geometry, with_id, compared_arguments, query_near, query_named}
+use Rattle.sf_commands.specs.Commands.{add_arguments, add_column, check_arguments, add_layer, add_rule, addhex_arguments, addressed_command, after_two_words, alone, ask_by, ask_of, by_editor, by_verb, by_words, bytes_command, column_arguments, column_command, delete_arguments, drop_column, drop_layer, drop_rule, faultless, feature_arguments, feature_command, feature_named, features_arguments, features_command, find_arguments, form_of, join_arguments, join_by, beside_of, hex_command, ids_of, insert_vertex, layer_arguments, layer_command, made, match_arguments, move_layer, move_vertex, of_layer, of_text, query_arguments, remove_vertex, rename_layer, replace_arguments, rule_arguments, rule_asked, rule_command, second_of, set_arguments, sought_of, unset_arguments, valid_of, vertex_arguments, vertex_command, with_geometry, with_id, compared_arguments, few_named, ids_max, linked_of, nearest_arguments, query_near, query_named, reach_arguments, reach_behind, reach_linked, reach_until, Linked}
 use Rattle.sf_command_laws.specs.Laws.{GivenGeometriesAreJudgedOverThePlane, HasFaultyGiven, HasJudgedGiven, HasValidGiven, SpellsValid, from_third, given_text, query_text, text_behind, text_by_words}
 
 -- what is said of what was made of a text behind the verb
@@ -358,6 +358,30 @@ ask_by_other : (word : List ℕ) (predicate : Option Predicate) → IfErr (ask_b
 ask_by_other word (Some predicate) = tt
 ask_by_other word None = made_other (ok_or (pattern_of word) BadPattern) _ (spelled_other (pattern_of word) BadPattern refl) (λ letters. tt)
 
+reach_until_judged : (t layer ask ids : List ℕ) (arguments : List (List ℕ)) → Judged t (reach_until layer ask ids arguments)
+reach_until_judged t layer ask ids [] = bad t
+reach_until_judged t layer ask ids (second ∷ []) = bad t
+reach_until_judged t layer ask ids (second ∷ end ∷ []) =
+    made_judged t (ask_of ask) _ (ask_by_other ask (predicate_of ask)) (λ ask. made_judged t (ask_of end) _ (ask_by_other end (predicate_of end)) (λ end. tt))
+reach_until_judged t layer ask ids (second ∷ end ∷ third ∷ more) = bad t
+
+reach_behind_judged : (t layer ask ids : List ℕ) (words : Option (List (List ℕ))) → Judged t (reach_behind layer ask ids words)
+reach_behind_judged t layer ask ids None = made_judged t (ask_of ask) _ (ask_by_other ask (predicate_of ask)) (λ ask. tt)
+reach_behind_judged t layer ask ids (Some words) = reach_until_judged t layer ask ids words
+
+reach_linked_judged : (t layer ask : List ℕ) (linked : Option Linked) → Judged t (reach_linked layer ask linked)
+reach_linked_judged t layer ask None = bad t
+reach_linked_judged t layer ask (Some linked) = by (nat_lt 0 (length linked.0) && nat_le (length linked.0) ids_max)
+  where
+    by : (few : Bool) → Judged t (if few then reach_behind layer ask linked.0 linked.1 else Err BadCommand)
+    by true = reach_behind_judged t layer ask linked.0 linked.1
+    by false = bad t
+
+reach_judged : (t : List ℕ) (arguments : List (List ℕ)) → Judged t (reach_arguments arguments)
+reach_judged t [] = bad t
+reach_judged t (layer ∷ []) = bad t
+reach_judged t (layer ∷ ask ∷ arguments) = reach_linked_judged t layer ask (linked_of arguments)
+
 some_other : (is : Bool) (second : List ℕ) → IfErr (if is then Ok second else Err BadCommand) IsOther
 some_other true second = tt
 some_other false second = refl
@@ -404,6 +428,10 @@ compared_judged : (t : List ℕ) (command : List ℕ → ℕ → Geometry → Co
     → ((layer : List ℕ) (id : ℕ) (given : Geometry) → SpellsValid t given → HasValidGiven t (command layer id given)) → Judged t (compared_arguments command arguments t)
 compared_judged t command arguments judged = after_two_words_judged t _ arguments (λ layer id.
     with_geometry_judged t command layer (ok_or (id_of id) BadCommand) (valid_of (read t)) (spelled_other (id_of id) BadCommand refl) (given_is_judged t) (judged layer))
+
+nearest_judged : (t : List ℕ) (arguments : List (List ℕ)) → Judged t (nearest_arguments arguments t)
+nearest_judged t arguments = after_two_words_judged t _ arguments (λ layer count.
+    with_geometry_judged t Nearest layer (ok_or (few_named count) BadCommand) (valid_of (read t)) (spelled_other (few_named count) BadCommand refl) (given_is_judged t) (λ count given valid. valid))
 
 match_judged : (t : List ℕ) (arguments : List (List ℕ)) → Judged t (match_arguments arguments t)
 match_judged t arguments = after_two_words_judged t _ arguments (λ layer pattern.
@@ -467,6 +495,8 @@ by_verb_judged (Some verbs.Simple) rest = feature_judged (behind rest) Simple (w
 by_verb_judged (Some verbs.Area) rest = features_judged (behind rest) (Measured Area) (words rest) (λ layer ids. tt)
 by_verb_judged (Some verbs.Length) rest = features_judged (behind rest) (Measured Length) (words rest) (λ layer ids. tt)
 by_verb_judged (Some verbs.Distance) rest = compared_judged (behind rest) Distance (words rest) (λ layer id given valid. valid)
+by_verb_judged (Some verbs.Nearest) rest = nearest_judged (behind rest) (words rest)
+by_verb_judged (Some verbs.Reach) rest = reach_judged (behind rest) (words rest)
 by_verb_judged (Some verbs.Relate) rest = compared_judged (behind rest) Relate (words rest) (λ layer id given valid. valid)
 by_verb_judged (Some verbs.Match) rest = match_judged (behind rest) (words rest)
 by_verb_judged (Some verbs.Query) rest = query_judged (words rest) (behind rest)

@@ -53,6 +53,7 @@ pub record SpellsFaulty (text : List ℕ) (fault : Fault) : Type 0 where
 -- what is said of the given geometry of a command
 abbrev pub HasValidGiven : List ℕ → Command → Type 0
 HasValidGiven text (commands.Distance name id given) = SpellsValid text given
+HasValidGiven text (commands.Nearest name count given) = SpellsValid text given
 HasValidGiven text (commands.Relate name id given) = SpellsValid text given
 HasValidGiven text (commands.Match name letters given) = SpellsValid text given
 HasValidGiven text (commands.Query name predicate given) = SpellsValid text given

@@ -1,5 +1,5 @@
 -- The points that the edits of lines and members bring are on the grid.
-use Rattle.std.proofs.Common.{◌≡◌, ℕ, ℤ, Bool, true, false, nat_lt, List, [], ◌∷◌, ◌++◌, length, Option, None, Some, ok_or, Result, Ok, Err, IfOk, if◌then◌else◌, refl, subst}
+use Rattle.std.proofs.Common.{◌≡◌, ℕ, ℤ, Bool, true, false, ◌&&◌, nat_le, nat_lt, List, [], ◌∷◌, ◌++◌, length, Option, None, Some, ok_or, Result, Ok, Err, IfOk, if◌then◌else◌, refl, subst}
 use Rattle.std.specs.List.{AllByRecursion}
 use Rattle.hex.specs.declared.error.FromHexError.{FromHexError}
 use Rattle.hex.specs.Hex.{decode_of}
@@ -28,7 +28,7 @@ use Rattle.sf_steps.specs.Laws.{BringsGridPoints}
 use Rattle.sf_groups.specs.declared.member.Member.{Member}
 use Rattle.sf_groups.specs.Members.{may_follow}
 use Rattle.sf_commands.specs.declared.command.Command.{Command}
-use Rattle.sf_commands.specs.declared.command.Command.TheVariants.{Edit, Undo, Redo, Layers, Columns, Rules, Show, Get, Hex, Simple, Extent, Measured, Distance, Relate, Match, Query, Near}
+use Rattle.sf_commands.specs.declared.command.Command.TheVariants.{Edit, Undo, Redo, Layers, Columns, Rules, Show, Get, Hex, Simple, Extent, Measured, Distance, Nearest, Relate, Match, Query, Near}
 use Rattle.sf_commands.specs.declared.group_text.GroupRefusal.{GroupRefusal}
 use Rattle.sf_words.specs.declared.naming.Naming.{Naming}
 use Rattle.sf_words.specs.declared.naming.Naming.TheVariants.{ById, OrLast}
@@ -44,7 +44,7 @@ use Rattle.sf_words.specs.Verbs.{action_of, verb_of}
 use Rattle.sf_words.specs.Naming.{given, id_named, id_of, vertex_place}
 use Rattle.sf_words.specs.Editors.{addressed}
 use Rattle.sf_values.specs.Kinds.{column_type_of, layer_kind_of, predicate_of}
-use Rattle.sf_commands.specs.Commands.{add_arguments, add_column, check_arguments, add_layer, add_rule, addhex_arguments, addressed_command, after_two_words, alone, ask_of, by_editor, by_verb, by_words, bytes_command, column_arguments, column_command, command_of, delete_arguments, drop_column, drop_layer, drop_rule, feature_arguments, feature_command, feature_named, features_arguments, features_command, find_arguments, form_of, join_arguments, join_by, beside_of, hex_command, ids_of, insert_vertex, layer_arguments, layer_command, made, match_arguments, move_layer, move_vertex, of_layer, of_text, query_arguments, remove_vertex, rename_layer, replace_arguments, rule_arguments, rule_asked, rule_command, second_of, set_arguments, sought_of, unset_arguments, valid_of, vertex_arguments, vertex_command, with_geometry, compared_arguments, query_near, query_asked, query_named}
+use Rattle.sf_commands.specs.Commands.{add_arguments, add_column, check_arguments, add_layer, add_rule, addhex_arguments, addressed_command, after_two_words, alone, ask_of, by_editor, by_verb, by_words, bytes_command, column_arguments, column_command, command_of, delete_arguments, drop_column, drop_layer, drop_rule, feature_arguments, feature_command, feature_named, features_arguments, features_command, find_arguments, form_of, join_arguments, join_by, beside_of, hex_command, ids_of, insert_vertex, layer_arguments, layer_command, made, match_arguments, move_layer, move_vertex, of_layer, of_text, query_arguments, remove_vertex, rename_layer, replace_arguments, rule_arguments, rule_asked, rule_command, second_of, set_arguments, sought_of, unset_arguments, valid_of, vertex_arguments, vertex_command, with_geometry, compared_arguments, few_named, ids_max, linked_of, nearest_arguments, query_near, query_asked, query_named, reach_arguments, reach_behind, reach_linked, reach_until, Linked}
 use Rattle.sf_commands.specs.Members.{member_by, member_by_verb, member_by_words, member_of, second_is_last, third_is_last}
 use Rattle.sf_words.specs.Parts.{parts_of}
 use Rattle.sf_commands.specs.GroupTexts.{and_behind, members_behind, members_in, placed}
@@ -229,6 +229,29 @@ join_brings (first ∷ []) = tt
 join_brings (first ∷ ask ∷ []) = tt
 join_brings (first ∷ ask ∷ second ∷ beside) = made_brings (beside_of beside) _ (λ beside. join_by_brings first ask (predicate_of ask) second beside)
 
+reach_until_brings : (layer ask ids : List ℕ) (arguments : List (List ℕ)) → Brings (reach_until layer ask ids arguments)
+reach_until_brings layer ask ids [] = tt
+reach_until_brings layer ask ids (second ∷ []) = tt
+reach_until_brings layer ask ids (second ∷ end ∷ []) = made_brings (ask_of ask) _ (λ ask. made_brings (ask_of end) _ (λ end. tt))
+reach_until_brings layer ask ids (second ∷ end ∷ third ∷ more) = tt
+
+reach_behind_brings : (layer ask ids : List ℕ) (words : Option (List (List ℕ))) → Brings (reach_behind layer ask ids words)
+reach_behind_brings layer ask ids None = made_brings (ask_of ask) _ (λ ask. tt)
+reach_behind_brings layer ask ids (Some words) = reach_until_brings layer ask ids words
+
+reach_linked_brings : (layer ask : List ℕ) (linked : Option Linked) → Brings (reach_linked layer ask linked)
+reach_linked_brings layer ask None = tt
+reach_linked_brings layer ask (Some linked) = by (nat_lt 0 (length linked.0) && nat_le (length linked.0) ids_max)
+  where
+    by : (few : Bool) → Brings (if few then reach_behind layer ask linked.0 linked.1 else Err BadCommand)
+    by true = reach_behind_brings layer ask linked.0 linked.1
+    by false = tt
+
+reach_brings : (arguments : List (List ℕ)) → Brings (reach_arguments arguments)
+reach_brings [] = tt
+reach_brings (layer ∷ []) = tt
+reach_brings (layer ∷ ask ∷ arguments) = reach_linked_brings layer ask (linked_of arguments)
+
 rule_asked_brings : (name : List ℕ) (form : Form) (first ask second : List ℕ) → Brings (rule_asked name form first ask second)
 rule_asked_brings name form first ask second = made_brings (ask_of ask) _ (λ ask. tt)
 
@@ -268,6 +291,10 @@ compared_brings : (command : List ℕ → ℕ → Geometry → Command) (argumen
     → ((layer : List ℕ) (id : ℕ) (given : Geometry) → BringsOnGrid (command layer id given)) → Brings (compared_arguments command arguments text)
 compared_brings command arguments text brings =
     after_two_words_brings _ arguments text (λ layer id text. with_geometry_brings command layer (ok_or (id_of id) BadCommand) (valid_of (read text)) (brings layer))
+
+nearest_brings : (arguments : List (List ℕ)) (text : List ℕ) → Brings (nearest_arguments arguments text)
+nearest_brings arguments text =
+    after_two_words_brings _ arguments text (λ layer count text. with_geometry_brings Nearest layer (ok_or (few_named count) BadCommand) (valid_of (read text)) (λ count given. tt))
 
 match_brings : (arguments : List (List ℕ)) (text : List ℕ) → Brings (match_arguments arguments text)
 match_brings arguments text =
@@ -323,6 +350,8 @@ by_verb_brings (Some verbs.Simple) rest = feature_brings Simple (words rest) (λ
 by_verb_brings (Some verbs.Area) rest = features_brings (Measured Area) (words rest) (λ layer ids. tt)
 by_verb_brings (Some verbs.Length) rest = features_brings (Measured Length) (words rest) (λ layer ids. tt)
 by_verb_brings (Some verbs.Distance) rest = compared_brings Distance (words rest) (skip_blanks (skip_word (skip_word rest))) (λ layer id given. tt)
+by_verb_brings (Some verbs.Nearest) rest = nearest_brings (words rest) (skip_blanks (skip_word (skip_word rest)))
+by_verb_brings (Some verbs.Reach) rest = reach_brings (words rest)
 by_verb_brings (Some verbs.Relate) rest = compared_brings Relate (words rest) (skip_blanks (skip_word (skip_word rest))) (λ layer id given. tt)
 by_verb_brings (Some verbs.Match) rest = match_brings (words rest) (skip_blanks (skip_word (skip_word rest)))
 by_verb_brings (Some verbs.Query) rest = query_brings (words rest) (skip_blanks (skip_word (skip_word rest)))

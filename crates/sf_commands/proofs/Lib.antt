@@ -2,6 +2,7 @@ pub mod AddLemmas
 pub mod VertexLemmas
 pub mod QueryLemmas
 pub mod LookupLemmas
+pub mod ReachLemmas
 pub mod MemberLemmas
 pub mod LawProofs
 pub mod AddressLemmas

@@ -32,12 +32,12 @@ use Rattle.sf_words.specs.declared.verb.Verb.TheVariants as verbs
 use Rattle.sf_words.specs.declared.verb.Action.{Action}
 use Rattle.sf_words.specs.declared.verb.Action.TheVariants as actions
 use Rattle.sf_commands.specs.declared.command.Command.{Command}
-use Rattle.sf_commands.specs.declared.command.Command.TheVariants.{Edit, AddRule, DropRule, Undo, Redo, Layers, Columns, Rules, Show, Get, Find, Check, Hex, Simple, Extent, Measured, Distance, Relate, Match, Query, Near, JoinMatching, JoinNamed}
+use Rattle.sf_commands.specs.declared.command.Command.TheVariants.{Edit, AddRule, DropRule, Undo, Redo, Layers, Columns, Rules, Show, Get, Find, Check, Hex, Simple, Extent, Measured, Distance, Nearest, Reach, ReachUntil, Relate, Match, Query, Near, JoinMatching, JoinNamed}
 use Rattle.sf_words.specs.declared.naming.Naming.{Naming}
 use Rattle.sf_words.specs.declared.naming.Naming.TheVariants.{ById}
 use Rattle.sf_words.specs.Words.{words, skip_blanks, skip_word, trimmed_end}
 use Rattle.sf_words.specs.Editors.{addressed}
-use Rattle.sf_words.specs.Naming.{given, id_named, id_of, vertex_place}
+use Rattle.sf_words.specs.Naming.{given, id_named, id_of, is_until, vertex_place}
 use Rattle.sf_words.specs.Verbs.{action_of, verb_of}
 use Rattle.sf_words.specs.Points.{point_of}
 use Rattle.sf_words.specs.Reaches.{is_near, reach_of}
@@ -49,7 +49,7 @@ abbrev pub each : {X Y : Type 0} → (X → Option Y) → List X → Option (Lis
 each make [] = Some []
 each make (x ∷ xs) = option_and_then (λ y. option_map (λ ys. y ∷ ys) (each make xs)) (make x)
 
--- how many identifiers `get`, `area` and `length` take at most
+-- how many identifiers `get`, `area`, `length` and `reach` take at most, and how many features `nearest` lists
 abbrev pub ids_max : ℕ
 ids_max = 1000
 
@@ -268,10 +268,25 @@ abbrev pub compared_arguments : (List ℕ → ℕ → Geometry → Command) → 
 compared_arguments command arguments text =
     after_two_words (λ layer id text. with_geometry command layer (ok_or (id_of id) BadCommand) (valid_of (read text))) arguments text
 
--- the command of the words after `distance`, and of those after `relate`
+-- the command of the words after `distance`
 abbrev pub distance_arguments : List (List ℕ) → List ℕ → Result Command Refusal
 distance_arguments arguments text = compared_arguments Distance arguments text
 
+-- a number from 1 to 1,000
+abbrev pub few_of : Option ℕ → Option ℕ
+few_of None = None
+few_of (Some n) = if nat_lt 0 n && nat_le n ids_max then Some n else None
+
+-- the number that a word spells
+abbrev pub few_named : List ℕ → Option ℕ
+few_named word = few_of (id_of word)
+
+-- the command of the words after `nearest`: a layer, how many features, and a text
+abbrev pub nearest_arguments : List (List ℕ) → List ℕ → Result Command Refusal
+nearest_arguments arguments text =
+    after_two_words (λ layer count text. with_geometry Nearest layer (ok_or (few_named count) BadCommand) (valid_of (read text))) arguments text
+
+-- the command of the words after `relate`
 abbrev pub relate_arguments : List (List ℕ) → List ℕ → Result Command Refusal
 relate_arguments arguments text = compared_arguments Relate arguments text
 
@@ -332,6 +347,46 @@ ask_by word None = made (ok_or (pattern_of word) BadPattern) (λ letters. Ok (Ma
 -- what a word asks of two features
 abbrev pub ask_of : List ℕ → Result Ask Refusal
 ask_of word = ask_by word (predicate_of word)
+
+-- identifiers, and behind them the words after `until`, where that stands
+abbrev pub Linked : Type 0
+Linked = List ℕ × Option (List (List ℕ))
+
+-- an identifier in front of others
+abbrev pub and_before : Option ℕ → Option Linked → Option Linked
+and_before (Some id) (Some linked) = Some (id ∷ linked.0, linked.1)
+and_before id linked = None
+
+-- what words say of chains: identifiers up to `until` or the end, and the words after it
+abbrev pub linked_of : List (List ℕ) → Option Linked
+linked_of [] = Some ([], None)
+linked_of (word ∷ words) = if is_until word then Some ([], Some words) else and_before (id_of word) (linked_of words)
+
+-- `reach` with no end of chains
+abbrev pub reach_all : List ℕ → List ℕ → List ℕ → Result Command Refusal
+reach_all layer ask ids = made (ask_of ask) (λ ask. Ok (Reach layer ask ids))
+
+-- `reach` up to the features that the words after `until` name: a layer, and what is asked
+abbrev pub reach_until : List ℕ → List ℕ → List ℕ → List (List ℕ) → Result Command Refusal
+reach_until layer ask ids (second ∷ end ∷ []) = made (ask_of ask) (λ ask. made (ask_of end) (λ end. Ok (ReachUntil layer ask ids second end)))
+reach_until layer ask ids arguments = Err BadCommand
+
+-- `reach` of what stands behind the identifiers
+abbrev pub reach_behind : List ℕ → List ℕ → List ℕ → Option (List (List ℕ)) → Result Command Refusal
+reach_behind layer ask ids None = reach_all layer ask ids
+reach_behind layer ask ids (Some words) = reach_until layer ask ids words
+
+-- `reach` from one to 1,000 features
+abbrev pub reach_linked : List ℕ → List ℕ → Option Linked → Result Command Refusal
+reach_linked layer ask None = Err BadCommand
+reach_linked layer ask (Some linked) =
+    if nat_lt 0 (length linked.0) && nat_le (length linked.0) ids_max then reach_behind layer ask linked.0 linked.1 else Err BadCommand
+
+-- the command of the words after `reach`: a layer, what is asked of each feature with the next, and identifiers; and then `until`, another
+-- layer and what is asked of a feature with some feature of that, where chains end
+abbrev pub reach_arguments : List (List ℕ) → Result Command Refusal
+reach_arguments (layer ∷ ask ∷ arguments) = reach_linked layer ask (linked_of arguments)
+reach_arguments arguments = Err BadCommand
 
 -- the form of a rule that a word spells
 abbrev pub form_of : List ℕ → Option Form
@@ -407,6 +462,8 @@ by_verb (Some verbs.Simple) rest = feature_arguments Simple (words rest)
 by_verb (Some verbs.Area) rest = features_arguments (Measured Area) (words rest)
 by_verb (Some verbs.Length) rest = features_arguments (Measured Length) (words rest)
 by_verb (Some verbs.Distance) rest = distance_arguments (words rest) (skip_blanks (skip_word (skip_word rest)))
+by_verb (Some verbs.Nearest) rest = nearest_arguments (words rest) (skip_blanks (skip_word (skip_word rest)))
+by_verb (Some verbs.Reach) rest = reach_arguments (words rest)
 by_verb (Some verbs.Relate) rest = relate_arguments (words rest) (skip_blanks (skip_word (skip_word rest)))
 by_verb (Some verbs.Match) rest = match_arguments (words rest) (skip_blanks (skip_word (skip_word rest)))
 by_verb (Some verbs.Query) rest = query_arguments (words rest) (skip_blanks (skip_word (skip_word rest)))

@@ -13,6 +13,7 @@ mod lookup_commands;
 mod members;
 mod parsing;
 mod query_commands;
+mod reach_commands;
 mod rule_commands;
 mod spelling;
 mod vertex_commands;

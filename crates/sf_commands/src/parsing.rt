@@ -15,8 +15,9 @@ use super::join_commands::join_arguments;
 use super::layer_commands::{layer_arguments, layers_arguments};
 use super::lookup_commands::{area_arguments, find_arguments, get_arguments, length_arguments};
 use super::query_commands::{
-    distance_arguments, match_arguments, query_arguments, relate_arguments,
+    distance_arguments, match_arguments, nearest_arguments, query_arguments, relate_arguments,
 };
+use super::reach_commands::reach_arguments;
 use super::rule_commands::{rule_arguments, rules_arguments};
 use super::vertex_commands::vertex_arguments;
 use sf_refusals::Refusal;
@@ -81,6 +82,8 @@ fn arguments_of(alloc: Global, verb: Option<Verb>, words: Words<'_>) -> Result<C
         Some(Verb::Area) => area_arguments(alloc, words),
         Some(Verb::Length) => length_arguments(alloc, words),
         Some(Verb::Distance) => distance_arguments(alloc, words),
+        Some(Verb::Nearest) => nearest_arguments(alloc, words),
+        Some(Verb::Reach) => reach_arguments(alloc, words),
         Some(Verb::Relate) => relate_arguments(alloc, words),
         Some(Verb::Match) => match_arguments(alloc, words),
         Some(Verb::Query) => query_arguments(alloc, words),

@@ -1,7 +1,7 @@
 //! Commands that compare features with a given geometry.
 ghost use Rattle.std.specs.Prelude.{◌≡◌};
 ghost use Rattle.sf_wkt.specs.Grammar.{read};
-ghost use Rattle.sf_commands.specs.Commands.{distance_arguments as distance_command_of, match_arguments as match_command_of, query_arguments as query_command_of, query_named as named_query_of, query_near as near_query_of, relate_arguments as relate_command_of, valid_of as valid_read, OrMemory};
+ghost use Rattle.sf_commands.specs.Commands.{distance_arguments as distance_command_of, few_named, match_arguments as match_command_of, nearest_arguments as nearest_command_of, query_arguments as query_command_of, query_named as named_query_of, query_near as near_query_of, relate_arguments as relate_command_of, valid_of as valid_read, OrMemory};
 ghost use Rattle.sf_words.specs.Words.{words as words_of, skip_blanks, skip_word};
 
 use super::command::Command;
@@ -11,6 +11,9 @@ use sf_validity::{Valid, validate};
 use sf_values::{predicate_of, text_of};
 use sf_words::{Words, id_of, is_near, reach_of};
 use std::alloc::Global;
+
+/// How many features `nearest` lists at most.
+const NEAREST_MAX: u32 = 1000;
 
 /// The given geometry is the rest of the line from the third word after `distance` on.
 pub(crate) fn distance_arguments(alloc: Global, mut words: Words<'_>) -> Result<Command, Refusal>
@@ -23,6 +26,29 @@ pub(crate) fn distance_arguments(alloc: Global, mut words: Words<'_>) -> Result<
     let layer = text_of(alloc, layer)?;
     let given = valid_of(alloc, text)?;
     Ok(Command::Distance(layer, id, given))
+}
+
+/// The given geometry is the rest of the line from the third word after `nearest` on.
+pub(crate) fn nearest_arguments(alloc: Global, mut words: Words<'_>) -> Result<Command, Refusal>
+    ensures { OrMemory (nearest_command_of (words_of words.entry) (skip_blanks (skip_word (skip_word words.entry)))) result }
+{
+    let layer = words.next()?;
+    let count = words.next()?;
+    let text = words.rest()?;
+    let count = few_of(count).ok_or(Refusal::BadCommand)?;
+    let layer = text_of(alloc, layer)?;
+    let given = valid_of(alloc, text)?;
+    Ok(Command::Nearest(layer, count, given))
+}
+
+/// The number from 1 to 1,000 that a word spells.
+fn few_of(word: &str) -> Option<u16>
+    ensures { result ≡ few_named word.now }
+{
+    match id_of(word) {
+        Some(count) if 0 < count && count <= NEAREST_MAX => Some(count as u16),
+        _ => None,
+    }
 }
 
 /// The given geometry is the rest of the line from the third word after `relate` on.

@@ -78,6 +78,11 @@ not_below s t number some same =
     nonneg_from_mul (pos s.den) t.num (let den : 0 < s.den = number.positive in omega (arith, ints))
     (turned (s.num *ℤ pos t.den) t.num (pos s.den) (eq_from_test (s.num *ℤ pos t.den) (t.num *ℤ pos s.den) same) (mul_nonneg s.num t.den some))
 
+-- the distance of one number, whatever its terms
+pub written-alike : (square : Square) (t : Fraction) → IsFraction (number_of square) → IsFraction t → IsTrue (fraction_eq (number_of square) t) → distance_text (number_of square) ≡ distance_text t
+written-alike square t number other same =
+    (equal_is_written_alike (number_of square) t number other (omega (arith, ints)) (not_below (number_of square) t number (omega (arith, ints)) same) same).0
+
 alike : (square : Square) (a b : Geometry) → IsFraction (number_of square) → IsTrue (fraction_eq (number_of square) (least_square_of a b))
     → distance_words (number_of square) ≡ distance_words (least_square_of a b)
 alike square a b number same =

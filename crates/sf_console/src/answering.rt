@@ -18,6 +18,8 @@ use super::finding::{column_of, ids_with, may_be_sought};
 use super::group_lines::{GroupLines, LineAsks};
 use super::grouping::{answer_cut, answer_group};
 use super::joining::joined;
+use super::nearest::nearest;
+use super::reaching::{reach, reach_until};
 use super::reply::{Reply, distance_line, hex_line};
 use super::rows::{column_rows, feature_rows, id_rows, layer_rows, measured_rows, rows_under};
 use super::rules::{add_rule, drop_rule, refused_by_rules, rules};
@@ -196,6 +198,22 @@ pub fn execute(
 {
     match command {
         Command::Edit(edit) => carry_out_edit(alloc, editor, asker, edit),
+        // A match of so many arms prepares for each of them, which edits need not pay for.
+        command => execute_any(alloc, editor, asker, command),
+    }
+}
+
+/// The same, of any command.
+fn execute_any(
+    alloc: Global,
+    editor: &mut Editor,
+    asker: u8,
+    command: Command,
+) -> Result<Reply, Refusal>
+    ensures { IsAnswered editor.old (Asked false (Ok (asker, command))) (reply_text result) editor.new }
+{
+    match command {
+        Command::Edit(edit) => carry_out_edit(alloc, editor, asker, edit),
         Command::AddRule(rule) => add_rule(alloc, editor, asker, rule),
         Command::DropRule(name) => drop_rule(alloc, editor, asker, &name),
         Command::Undo => {
@@ -222,6 +240,17 @@ pub fn execute(
             measured(alloc, editor.store(), measure, &layer, &ids)
         }
         Command::Distance(layer, id, given) => distance(alloc, editor.store(), &layer, id, &given),
+        Command::Nearest(layer, count, given) => nearest(
+            alloc,
+            editor.store(),
+            &layer,
+            count,
+            &given,
+        ),
+        Command::Reach(layer, ask, ids) => reach(alloc, editor.store(), &layer, &ask, &ids),
+        Command::ReachUntil(layer, ask, ids, second, end) => {
+            reach_until(alloc, editor.store(), &layer, &ask, &ids, &second, &end)
+        }
         Command::Relate(layer, id, given) => relate(alloc, editor.store(), &layer, id, &given),
         Command::Match(layer, pattern, given) => {
             let ask = Ask::Matching(pattern);

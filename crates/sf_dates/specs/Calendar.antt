@@ -1,5 +1,7 @@
 -- Days of the Gregorian calendar, also before there was one, and moments of UTC.
 use Rattle.std.specs.Prelude.{ℕ, ◌%◌, Bool, not, ◌&&◌, ◌||◌, ◌==◌, nat_lt, nat_le, IsTrue, if◌then◌else◌}
+use Rattle.std.specs.Ordering.{nat_cmp, ordering_then}
+use Rattle.std.specs.declared.cmp.Ordering.{Ordering}
 use Rattle.sf_dates.specs.declared.day.Day.{Day}
 use Rattle.sf_dates.specs.declared.moment.Moment.{Moment}
 
@@ -39,3 +41,10 @@ IsDate d = IsTrue (is_day d)
 
 abbrev pub IsDateTime : Moment → Type 0
 IsDateTime t = IsTrue (is_moment t)
+
+-- the order of two days as they come, and of two moments
+abbrev pub day_cmp : Day → Day → Ordering
+day_cmp a b = ordering_then (ordering_then (nat_cmp a.year b.year) (nat_cmp a.month b.month)) (nat_cmp a.day b.day)
+
+abbrev pub moment_cmp : Moment → Moment → Ordering
+moment_cmp a b = ordering_then (day_cmp a.date b.date) (nat_cmp a.millisecond b.millisecond)

@@ -37,6 +37,18 @@ impl Decimal {
         }
     }
 
+    /// A whole number.
+    pub fn whole(number: i64) -> Decimal
+        ensures { result ≡ record { mantissa = number; places = 0 } }
+    {
+        Decimal {
+            number: Number {
+                mantissa: number,
+                places: 0,
+            },
+        }
+    }
+
     /// The parts of the number.
     pub fn parts(&self) -> Number
         ensures value { result ≡ self.now }

@@ -5,3 +5,4 @@ pub mod VertexLaws
 pub mod GridLaws
 pub mod Copied
 pub mod SameLaws
+pub mod ValueOrder

@@ -1,4 +1,5 @@
 pub mod Names
 pub mod Values
+pub mod Order
 pub mod Features
 pub mod Columns

@@ -1,13 +1,15 @@
 ghost use Rattle.std.specs.Prelude.{◌≡◌, IfOk};
 ghost use Rattle.std.specs.List.{list_all};
 ghost use Rattle.sf_dates.specs.Calendar.{is_day as is_day_of, is_moment as is_moment_of};
+ghost use Rattle.sf_features.specs.Order.{rank_of, value_cmp};
 ghost use Rattle.sf_features.specs.Values.{fits_int as fits_int_of, is_attr_text as is_attr_text_of, is_text_byte as is_text_byte_of, is_of_type, number_value, same_date, same_datetime, same_decimal, same_value};
 
 use super::column_type::ColumnType;
 use super::text::Text;
-use sf_dates::{Date, DateTime, Day, Moment};
-use sf_decimals::{Decimal, Number};
+use sf_dates::{Date, DateTime, Day, Moment, compare_dates, compare_datetimes};
+use sf_decimals::{Decimal, Number, compare as compare_numbers};
 use std::alloc::{AllocError, Global};
+use std::cmp::Ordering;
 
 /// How many bytes an attribute text has at most.
 const TEXT_MAX: usize = 65535;
@@ -87,6 +89,37 @@ impl AttrValue {
                 b.parts(),
             ),
             _ => false,
+        }
+    }
+
+    /// The order of two values: of numbers by what they count, false before true, of days and moments as they come, of texts by
+    /// their bytes. Of values that can't stand in one column numbers come first, then texts, truth values, days and moments.
+    pub fn compare(&self, other: &AttrValue) -> Ordering
+        ensures { result ≡ value_cmp self.now other.now }
+    {
+        match (self, other) {
+            (AttrValue::Int(a), AttrValue::Int(b)) => a.cmp(b),
+            (AttrValue::Int(a), AttrValue::Decimal(b)) => compare_numbers(&Decimal::whole(*a), b),
+            (AttrValue::Decimal(a), AttrValue::Int(b)) => compare_numbers(a, &Decimal::whole(*b)),
+            (AttrValue::Decimal(a), AttrValue::Decimal(b)) => compare_numbers(a, b),
+            (AttrValue::Text(a), AttrValue::Text(b)) => a.as_str().cmp(b.as_str()),
+            (AttrValue::Bool(a), AttrValue::Bool(b)) => a.cmp(b),
+            (AttrValue::Date(a), AttrValue::Date(b)) => compare_dates(a, b),
+            (AttrValue::DateTime(a), AttrValue::DateTime(b)) => compare_datetimes(a, b),
+            _ => self.rank().cmp(&other.rank()),
+        }
+    }
+
+    /// Which of two values comes first that can't stand in one column.
+    fn rank(&self) -> u8
+        ensures { result ≡ rank_of self.now }
+    {
+        match self {
+            AttrValue::Int(_) | AttrValue::Decimal(_) => 0,
+            AttrValue::Text(_) => 1,
+            AttrValue::Bool(_) => 2,
+            AttrValue::Date(_) => 3,
+            AttrValue::DateTime(_) => 4,
         }
     }
 }

@@ -6,6 +6,7 @@ mod column;
 mod column_type;
 mod columns;
 mod feature;
+pub mod laws;
 mod names;
 mod text;
 

@@ -32,7 +32,7 @@ use Rattle.sf_features.specs.Features.{FeatureContent}
 use Rattle.sf_dates.specs.declared.day.Day.{Day}
 use Rattle.sf_dates.specs.declared.moment.Moment.{Moment}
 use Rattle.sf_decimals.specs.declared.number.Number.{Number}
-use Rattle.sf_features.specs.Values.{is_attr_text, text_max}
+use Rattle.sf_features.specs.Values.{is_attr_text}
 use Rattle.sf_layers.specs.declared.layer_kind.LayerKind.{LayerKind}
 use Rattle.sf_layers.specs.Content.{Content, LayerContent, admits, has_layer}
 use Rattle.sf_layers.specs.WellFormed.{layers_max}
@@ -180,7 +180,7 @@ Finds-date row text = Finds-then row text (number 2) date_after_year (Finds-numb
 Finds-typed : (row : RowReading) (text : List ℕ) (t : ColumnType) → Finds row text (typed_value t)
 Finds-typed row text types.Int = Finds-then row text (number 8) (λ n. done (values.Int (cast_signed w64 n))) (Finds-number row text 8) (λ n. Finds-done row text (values.Int (cast_signed w64 n)))
 Finds-typed row text types.Text = Finds-field row text _ _
-    (Finds-sized row text 2 _ (λ size. allowed_other (nat_le size text_max) WrongValue size wrong_value))
+    (Finds-then row text (number 2) bytes (Finds-number row text 2) (λ size. Finds-bytes row text size))
     (λ word. allowed_other (is_attr_text word) WrongValue (values.Text word) wrong_value)
 Finds-typed row text types.Decimal = Finds-field row text decimal_parts (λ parts. present (decimal_in parts) WrongValue)
     (Finds-then row text signed_number decimal_after_mantissa

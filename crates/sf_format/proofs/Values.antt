@@ -4,7 +4,7 @@ use Rattle.std.specs.Prelude.{◌==◌, ◌||◌, if◌then◌else◌, nat_eq, n
 use Rattle.std.specs.Int.{w64, cast_signed, cast_unsigned}
 use Rattle.std.specs.List.{list_all}
 use Rattle.std.specs.Str.{is_utf8}
-use Rattle.std.proofs.lemmas.Bool.{le-leb, leb-true, ltb-true}
+use Rattle.std.proofs.lemmas.Bool.{leb-true, ltb-true}
 use Rattle.std.proofs.lemmas.Bool.Decides.{nat_tests}
 use Rattle.std.proofs.lemmas.Int.{ints, to_z-of_z}
 use mir.ValLaws as laws
@@ -20,10 +20,10 @@ use Rattle.sf_features.specs.declared.attr_value.AttrValue.{AttrValue}
 use Rattle.sf_features.specs.declared.attr_value.AttrValue.TheVariants as values
 use Rattle.sf_features.specs.Values.{is_attr_text, is_of_type, is_text_byte, number_value, text_max}
 use Rattle.sf_format.specs.declared.defect.Defect.TheVariants.{WrongValue}
-use Rattle.sf_format.specs.Readings.{done, number, sized}
-use Rattle.sf_format.specs.Format.{allowed, bool_of_byte, date_parts, day_in, decimal_in, decimal_parts, moment_in, moment_parts, present, signed_number, typed_value}
+use Rattle.sf_format.specs.Readings.{bytes, done, number}
+use Rattle.sf_format.specs.Format.{allowed, bool_of_byte, date_parts, day_in, decimal_in, decimal_parts, moment_in, moment_parts, present, signed_number, typed_value, text_bytes}
 use Rattle.sf_format.specs.Canonical.{behind_length, date_bytes, decimal_bytes, int_bytes, is_decimal_type, moment_bytes, typed_bytes}
-use Rattle.sf_format.proofs.Again.{Again, Again-field, Again-made, Again-number, Again-number_field, Again-sized, Again-then, Again-value}
+use Rattle.sf_format.proofs.Again.{Again, Again-bytes, Again-field, Again-made, Again-number, Again-number_field, Again-then, Again-value}
 use Rattle.sf_format.proofs.Continuations.{date_after_month, date_after_year, decimal_after_mantissa, moment_after_date}
 use Rattle.sf_format.proofs.Promises.{Promises, Promises-done, Promises-number, Promises-then}
 use Rattle.sf_format.proofs.Rules.{allowed-ok, both, both_of}
@@ -135,8 +135,8 @@ typed-again types.Int (values.Int n) is =
     Again-value (typed_value types.Int) (big_bytes 8 (cast_unsigned w64 n)) _ (values.Int n) (ap values.Int (to_z-of_z w64 n (fits-signed n is)))
     (Again-made (number 8) (λ n. values.Int (cast_signed w64 n)) (big_bytes 8 (cast_unsigned w64 n)) (cast_unsigned w64 n) (Again-number 8 (cast_unsigned w64 n) (laws.of_z_fits w64 n (fits-signed n is)).fits))
 typed-again types.Text (values.Text text) is =
-    Again-field (sized 2 (λ size. allowed (nat_le size text_max) WrongValue size)) (λ text. allowed (is_attr_text text) WrongValue (values.Text text)) (behind_length 2 text) text (values.Text text)
-    (Again-sized 2 (λ size. allowed (nat_le size text_max) WrongValue size) text (omega (arith, text-short text is)) (allowed-ok _ WrongValue (length text) (le-leb (length text) text_max (text-short text is))))
+    Again-field text_bytes (λ text. allowed (is_attr_text text) WrongValue (values.Text text)) (behind_length 2 text) text (values.Text text)
+    (Again-then (number 2) bytes (big_bytes 2 (length text)) text (length text) text (Again-number 2 (length text) (omega (arith, text-short text is))) (Again-bytes (length text) text refl))
     (allowed-ok (is_attr_text text) WrongValue (values.Text text) is)
 typed-again types.Decimal (values.Int n) is =
     Again-field decimal_parts (λ parts. present (decimal_in parts) WrongValue) (int_bytes true n) (record { mantissa = n; places = 0 }) (values.Int n)

@@ -19,7 +19,7 @@ use Rattle.sf_wkb.specs.Grammar.{read_in}
 use Rattle.sf_features.specs.Names.{is_name}
 use Rattle.sf_features.specs.Columns.{named, numbered}
 use Rattle.sf_features.specs.Features.{FeatureContent}
-use Rattle.sf_features.specs.Values.{text_max, is_attr_text, number_value}
+use Rattle.sf_features.specs.Values.{is_attr_text, number_value}
 use Rattle.sf_decimals.specs.declared.number.Number.{Number}
 use Rattle.sf_decimals.specs.Decimals.{is_decimal}
 use Rattle.sf_dates.specs.declared.day.Day.{Day}
@@ -159,12 +159,18 @@ moment_parts = do
 abbrev pub moment_in : Moment → Option AttrValue
 moment_in parts = if is_moment parts then Some (values.DateTime parts) else None
 
+-- the bytes of a text, behind their number
+abbrev pub text_bytes : Reading (List ℕ)
+text_bytes = do
+  size ← number 2
+  bytes size
+
 -- the value of a column of a type
 abbrev pub typed_value : ColumnType → Reading AttrValue
 typed_value types.Int = do
   n ← number 8
   done (values.Int (cast_signed w64 n))
-typed_value types.Text = field (sized 2 (λ size. allowed (nat_le size text_max) WrongValue size)) (λ text. allowed (is_attr_text text) WrongValue (values.Text text))
+typed_value types.Text = field text_bytes (λ text. allowed (is_attr_text text) WrongValue (values.Text text))
 typed_value types.Decimal = field decimal_parts (λ parts. present (decimal_in parts) WrongValue)
 typed_value types.Bool = field (number 1) (λ byte. present (bool_of_byte byte) WrongValue)
 typed_value types.Date = field date_parts (λ parts. present (day_in parts) WrongValue)

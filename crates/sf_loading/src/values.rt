@@ -1,15 +1,15 @@
 //! The values of features.
-ghost use Rattle.std.specs.Prelude.{◌≡◌, ◌≤◌, ◌<◌, ℕ, List, None, [], length, nat_eq, nat_le, nat_lt, IfOk, IsTrue, OnOk, if◌then◌else◌};
+ghost use Rattle.std.specs.Prelude.{◌≡◌, ◌<◌, ℕ, List, None, [], length, nat_eq, nat_lt, IfOk, IsTrue, if◌then◌else◌};
 ghost use Rattle.std.specs.List.{AllByRecursion};
 ghost use Rattle.std.specs.List.Sorted.{IsStrictlySortedBy};
 ghost use Rattle.std.specs.Map.{keys_of, lookup};
 ghost use Rattle.std.specs.Ordering.{nat_cmp};
 ghost use Rattle.sf_features.specs.declared.column.Column.{Column as Kept};
 ghost use Rattle.sf_features.specs.declared.attr_value.AttrValue.TheVariants as kept;
-ghost use Rattle.sf_features.specs.Values.{is_attr_text, is_of_type, text_max};
+ghost use Rattle.sf_features.specs.Values.{is_attr_text, is_of_type};
 ghost use Rattle.sf_layers.specs.WellFormed.{IsValue};
 ghost use Rattle.sf_format.specs.declared.defect.Defect.TheVariants.{NoColumn, WrongValue};
-ghost use Rattle.sf_format.specs.Readings.{field, items, number};
+ghost use Rattle.sf_format.specs.Readings.{items, number};
 ghost use Rattle.sf_format.specs.Format.{allowed as allowed_of, bool_of_byte as bool_of_byte_of, date_parts as date_parts_of, day_in as day_in_of, decimal_in as decimal_in_of, decimal_parts as decimal_parts_of, moment_in as moment_in_of, moment_parts as moment_parts_of, typed_value as typed_value_of, value as value_of};
 ghost use Rattle.sf_loading.specs.Streaming.{Gives, IsTextOf, Judges};
 ghost use Rattle.sf_loading.specs.Types.{AreTypesOf, GivesColumn, value_above};
@@ -26,19 +26,6 @@ use sf_format::Defect;
 use sf_streams::Window;
 use std::alloc::Global;
 use std::io::Read;
-
-/// How many bytes a text has at most.
-const TEXT_MAX: u16 = 65535;
-
-/// The length of a text.
-fn text_size<R: Read>(window: &mut Window, reader: &mut R) -> Result<u16, Halt>
-    ensures { Gives (λ n. n) (field (number 2) (λ size. allowed_of (nat_le size text_max) WrongValue size))
-        (R.remaining reader.old) (R.remaining reader.new) window.old window.new result }
-{
-    let place = window.place();
-    let size = number_u16(window, reader)?;
-    allowed(size <= TEXT_MAX, place, Defect::WrongValue, size)
-}
 
 /// The value that a text at a place is.
 fn attr_text(place: u64, text: Option<Text>) -> Result<AttrValue, Halt>
@@ -68,7 +55,7 @@ fn text_value<R: Read>(
     ensures typed { IfOk result (λ v. IsTrue (is_of_type ColumnType.Text v)) }
 {
     let place = window.place();
-    let size = text_size(window, reader)? as usize;
+    let size = number_u16(window, reader)? as usize;
     let text = text(alloc, window, reader, size)?;
     attr_text(place, text)
 }

@@ -4,3 +4,7 @@ pub mod SpanLaws
 pub mod PassLaws
 pub mod FeatureLaws
 mod Computed
+pub mod NearerLaws
+pub mod OrderedLaws
+pub mod FoundLaws
+pub mod AroundLaws

@@ -1,5 +1,5 @@
 -- What the calls answer: as it is computed, and over all points of the plane (6.1.2.4, Distance).
-use Rattle.std.specs.Prelude.{◌≡◌, ◌↔◌, ℕ, List, Option, Some, None, Result, Ok, Err, Contains, IsTrue}
+use Rattle.std.specs.Prelude.{◌≡◌, ◌↔◌, ℕ, List, [], ◌∷◌, length, map, Option, Some, None, Result, Ok, Err, Contains, IsTrue, min}
 use Rattle.std.specs.Global.{Vec}
 use Rattle.std.specs.List.Sorted.{IsStrictlySortedBy}
 use Rattle.std.specs.List.{AllByRecursion}
@@ -18,6 +18,9 @@ use Rattle.sf_layers.specs.Content.{LayerContent, feature_of}
 use Rattle.sf_query.specs.declared.refusal.Refusal.{Refusal}
 use Rattle.sf_query.specs.declared.refusal.Refusal.TheVariants.{Memory, NoLayer, NoFeature}
 use Rattle.sf_near.specs.Answers.{ids_within}
+use Rattle.sf_near.specs.Nearest.{is_nearer, nearest_of}
+use Rattle.sf_near.specs.Found.{AreTold}
+use Rattle.sf_near.specs.declared.distant.Distant.{Distant}
 
 -- just the features are listed that have a point no farther than the root of the bound from one of b, of all points of the plane; rising
 pub record AreWithin (layer : LayerContent) (bound : Fraction) (b : Geometry) (ids : List ℕ) : Type 0 where
@@ -48,3 +51,34 @@ IsMeasuredTo (Some feature) b (Err refusal) = refusal ≡ Memory
 abbrev pub IsMeasured : Option LayerContent → ℕ → Geometry → Result Square Refusal → Type 0
 IsMeasured None id b result = result ≡ Err NoLayer
 IsMeasured (Some layer) id b result = IsMeasuredTo (feature_of layer id) b result
+
+-- ---- the nearest
+
+-- each is nearer than all behind it
+abbrev pub AreInOrder : List (ℕ × Fraction) → Type 0
+AreInOrder [] = Unit {0}
+AreInOrder (p ∷ ps) = AllByRecursion (λ q. IsTrue (is_nearer p q)) ps × AreInOrder ps
+
+-- k features, or all where there are fewer, each with the square of its distance from b, over all points of the plane; whichever is not
+-- listed is farther than all that are
+pub record AreNearest (layer : LayerContent) (k : ℕ) (b : Geometry) (found : List (ℕ × Fraction)) : Type 0 where
+  pub in_order : AreInOrder found
+  pub as_many : length found ≡ min k (length layer.features)
+  pub measured : AllByRecursion
+      (λ p. (feature : FeatureContent) × (feature_of layer p.0 ≡ Some feature) × IsLeastSquare (IsOf feature.geometry) (IsOf b) p.1) found
+  pub no_other : (id : ℕ) (feature : FeatureContent) (square : Fraction) → feature_of layer id ≡ Some feature
+      → IsLeastSquare (IsOf feature.geometry) (IsOf b) square → ¬ (Contains (map (λ p. p.0) found) id)
+      → AllByRecursion (λ p. IsTrue (is_nearer p (id, square))) found
+
+-- of any layer whose identifiers rise and whose geometries are valid what is computed are just those
+abbrev pub NearestIsOverThePlane : Type 0
+NearestIsOverThePlane =
+    (layer : LayerContent) (k : ℕ) (b : Geometry) → IsStrictlySortedBy nat_cmp (keys_of layer.features)
+    → AllByRecursion (λ feature. IsValid feature.geometry) (values_of layer.features) → IsValid b
+    → AreNearest layer k b (nearest_of layer k b)
+
+-- of the nearest features: those that are computed
+abbrev pub IsToldNearest : Option LayerContent → ℕ → Geometry → Result (Vec Distant) Refusal → Type 0
+IsToldNearest None k b result = result ≡ Err NoLayer
+IsToldNearest (Some layer) k b (Ok found) = AreTold found.items (nearest_of layer k b)
+IsToldNearest (Some layer) k b (Err refusal) = refusal ≡ Memory

@@ -67,7 +67,11 @@ pub fn distance_to(
 /// # Errors
 ///
 /// Out of memory alone.
-fn ids_within(alloc: Global, layer: &Layer, around: &Surroundings) -> Result<Vec<u32>, AllocError>
+pub(crate) fn ids_within(
+    alloc: Global,
+    layer: &Layer,
+    around: &Surroundings,
+) -> Result<Vec<u32>, AllocError>
     requires { IsLayer layer.now }
     ensures { IfOk result (λ ids. ids.items ≡ ids_within_of layer.now (square_of_reach around.now.reach) around.now.geometry) }
 {

@@ -13,6 +13,10 @@ use Rattle.sf_words.specs.declared.vertex_place.VertexPlace.{VertexPlace}
 abbrev pub is_last : List ℕ → Bool
 is_last word = bytes_eq word (codes "last")
 
+-- whether a word stands before the features at which chains end
+abbrev pub is_until : List ℕ → Bool
+is_until word = bytes_eq word (codes "until")
+
 -- how many digits an identifier has at most
 abbrev pub id_digits_max : ℕ
 id_digits_max = 10

@@ -10,7 +10,7 @@ use Rattle.sf_words.specs.declared.verb.Action.TheVariants as actions
 abbrev pub asking_verbs : List (List ℕ × Verb)
 asking_verbs = (codes "layers", verbs.Layers) ∷ (codes "columns", verbs.Columns) ∷ (codes "rules", verbs.Rules) ∷ (codes "show", verbs.Show)
     ∷ (codes "get", verbs.Get) ∷ (codes "find", verbs.Find) ∷ (codes "check", verbs.Check) ∷ (codes "hex", verbs.Hex) ∷ (codes "box", verbs.Box) ∷ (codes "simple", verbs.Simple)
-    ∷ (codes "area", verbs.Area) ∷ (codes "length", verbs.Length) ∷ (codes "distance", verbs.Distance) ∷ (codes "relate", verbs.Relate) ∷ (codes "match", verbs.Match) ∷ (codes "query", verbs.Query) ∷ (codes "join", verbs.Join) ∷ []
+    ∷ (codes "area", verbs.Area) ∷ (codes "length", verbs.Length) ∷ (codes "distance", verbs.Distance) ∷ (codes "nearest", verbs.Nearest) ∷ (codes "reach", verbs.Reach) ∷ (codes "relate", verbs.Relate) ∷ (codes "match", verbs.Match) ∷ (codes "query", verbs.Query) ∷ (codes "join", verbs.Join) ∷ []
 
 -- the asking verb that a word spells
 abbrev pub asking_verb_of : List ℕ → Option Verb

@@ -16,7 +16,7 @@ mod words;
 pub use addressing::addressed;
 pub use hexadecimal::bytes_of;
 pub use identifiers::Identifiers;
-pub use naming::{Naming, id_named, is_last};
+pub use naming::{Naming, id_named, is_last, is_until};
 pub use numerals::id_of;
 pub use parts::{parts_count, split_part};
 pub use point::point_of;

@@ -1,6 +1,6 @@
 //! Words that name features.
 ghost use Rattle.std.specs.Prelude.{◌≡◌};
-ghost use Rattle.sf_words.specs.Naming.{id_named, is_last};
+ghost use Rattle.sf_words.specs.Naming.{id_named, is_last, is_until};
 
 use super::numerals::id_of;
 
@@ -28,4 +28,11 @@ pub fn is_last(word: &str) -> bool
     ensures { result ≡ is_last word.now }
 {
     word == "last"
+}
+
+/// Whether a word stands before the features at which chains end.
+pub fn is_until(word: &str) -> bool
+    ensures { result ≡ is_until word.now }
+{
+    word == "until"
 }

@@ -24,6 +24,7 @@ from sfstore.exchange.geojson import crs_member
 from sfstore.exchange.grid import Grid
 from sfstore.exchange.placing import Place, placed
 from sfstore.exchange.postgis import write_database
+from sfstore.exchange.views import check_end
 from sfstore.exchange.writing import write_data
 from sfstore.geometry import read_wkb
 from sfstore.program import ProgramMissing
@@ -97,11 +98,33 @@ def give_back(wishes: Wishes, say: Say) -> None:
         losses += [f"the rule {rule.line}" for rule in rules if rule not in kept]
     for loss in losses:
         say(f"{wishes.format} does not keep {loss}")
+    for line in _left_out(wishes, parts):
+        say(line)
     _write(wishes, parts, found, kept, say)
     if wishes.grid is not None:
         _keep_grid(wishes, found)
     if wishes.rules is not None:
         _write_rules(wishes, wishes.rules, rules, say)
+
+
+def _left_out(wishes: Wishes, parts: list[Part]) -> list[str]:
+    """What is to be said of layers of which an import has left something out, where a file is replaced that may have it.
+
+    In a database the rows are looked at.
+    """
+    if not wishes.overwrite or not os.path.lexists(wishes.target):
+        return []
+    told = []
+    for part in parts:
+        origin = part.origin
+        words = [
+            *([f"{len(origin.left_out)} features"] if origin.left_out else []),
+            *([f"values of {len(origin.without)} features"] if origin.without else []),
+            *([f"all of {ogr.printable(', '.join(origin.left_columns))}"] if origin.left_columns else []),
+        ]
+        if words:
+            told.append(f"{part.name} is without what its import has left out: {'; '.join(words)}. What is replaced may have them")
+    return told
 
 
 def _blurred(parts: list[Part], grid: Grid) -> list[str]:
@@ -138,7 +161,7 @@ def _write(wishes: Wishes, parts: list[Part], found: Sidecar, rules: list[Rule],
     """Writes the map as its format has it."""
     wanted = FORMATS[wishes.format]
     if wishes.format == "PostgreSQL":
-        write_database(wishes.target, parts, found, wishes.overwrite)
+        write_database(wishes.target, parts, found, wishes.overwrite, say)
     elif wanted.has_layers or wishes.target.lower().endswith(wanted.ending):
         if not wanted.has_layers and len(parts) != 1:
             raise ogr.ExchangeError(
@@ -194,6 +217,7 @@ def _check_strangers(place: Place, name: str) -> None:
 def _check_tables(path: str, parts: list[Part]) -> None:
     """`ogr.ExchangeError` where a GeoPackage has tables that would go with it: none of the new one's, nor of an export."""
     module, _, _ = ogr.gdal()
+    check_end(path)
     try:
         # One that has pictures alone is no map of layers.
         old = module.OpenEx(path, module.OF_VECTOR | module.OF_RASTER, allowed_drivers=["GPKG"])

@@ -141,6 +141,10 @@ class Grid:
         far = max(abs(place) for place in self._near_origin) + _FAR * self._near_step
         return self._near_step >= 2 * math.ulp(far)
 
+    def tells_apart(self, places: Sequence[float]) -> bool:
+        """Whether the steps beside each of some doubles have doubles of their own."""
+        return all(self._near_step >= 2 * math.ulp(place) for place in places)
+
     def blurred(self, steps: Sequence[float]) -> int:
         """How many of some steps do not come back from their doubles, since others have the same."""
         try:

@@ -424,10 +424,15 @@ class _Columns(SourceColumns):
             name = names.get(source_name, source_name)
             kind = _type(column, as_text, wanted.get(name, ""))
             self._taken[source_name] = self._take(source_name, used.new(name), column, kind)
-        if survey.has_column_of_identifiers:
-            name = used.new(names.get(_IDENTIFIER, _IDENTIFIER))
-            self._identifiers = self._take(_IDENTIFIER, name, survey.identifier, _type(survey.identifier, as_text, ""))
-            self.notes.append(f"identifiers that the store can't have are in the column {name}")
+        name = names.get(_IDENTIFIER, _IDENTIFIER)
+        # A layer that it is added to may have such a column, of the features before.
+        is_wanted = name in wanted and _IDENTIFIER not in survey.columns and bool(survey.identifier.kinds)
+        if survey.has_column_of_identifiers or is_wanted:
+            name = used.new(name)
+            kind = _type(survey.identifier, as_text, wanted.get(name, ""))
+            self._identifiers = self._take(_IDENTIFIER, name, survey.identifier, kind)
+            which = "that the store can't have" if survey.has_column_of_identifiers else "of the source"
+            self.notes.append(f"identifiers {which} are in the column {name}")
 
     def _take(self, source_name: str, name: str, column: _Column, kind: int) -> _Taken:
         type_name, subtype = column.type

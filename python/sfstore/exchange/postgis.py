@@ -11,7 +11,7 @@ import contextlib
 import datetime
 import re
 import struct
-from collections.abc import Iterator, Sequence
+from collections.abc import Callable, Iterator, Sequence
 from decimal import Decimal
 from typing import Any, NamedTuple
 
@@ -31,6 +31,8 @@ __all__ = ["write_database"]
 _LOCK_SECONDS = 60
 # How many rows are sent, and read back, at a time.
 _BATCH = 1_000
+# How many features a refusal names.
+_SHOWN = 8
 _HAS_REFERENCE = 0x20000000
 _INT_32_MAX = 2**31 - 1
 
@@ -54,8 +56,10 @@ _WORD = re.compile(r"(\w+)\s*=\s*('(?:[^'\\]|\\.)*'|\S*)")
 _OF_OGR = ("active_schema", "schemas", "tables")
 
 
-def write_database(target: str, parts: Sequence[Part], found: Sidecar, overwrite: bool) -> None:
-    """Writes all layers to a PostGIS database in one transaction.
+def write_database(
+    target: str, parts: Sequence[Part], found: Sidecar, overwrite: bool, say: Callable[[str], object] = lambda line: None
+) -> None:
+    """Writes all layers to a PostGIS database in one transaction; ``say`` hears which rows go for ever.
 
     `ogr.ExchangeError` where the database does not take them as they are, and then it is as it was.
     """
@@ -67,7 +71,7 @@ def write_database(target: str, parts: Sequence[Part], found: Sidecar, overwrite
         raise ogr.ExchangeError(f"the database does not open: {_sentence(error)}") from None
     with contextlib.closing(connection):
         try:
-            _Export(connection, schema, found, overwrite).write(parts)
+            _Export(connection, schema, found, overwrite, say).write(parts)
         except psycopg2.Error as error:
             raise ogr.ExchangeError(f"the database refused it: {_sentence(error)}") from None
         try:
@@ -147,8 +151,11 @@ class _Table(NamedTuple):
 class _Export:
     """One export, in the transaction of a connection."""
 
-    def __init__(self, connection: Any, schema: str | None, found: Sidecar, overwrite: bool) -> None:
+    def __init__(
+        self, connection: Any, schema: str | None, found: Sidecar, overwrite: bool, say: Callable[[str], object]
+    ) -> None:
         self._sql = _module().sql
+        self.say = say
         self.connection = connection
         self._asked_schema = schema
         self._crs = found.crs
@@ -266,6 +273,7 @@ class _Export:
         self._check_others(oid, name)
         table = _Table(schema, name, oid, self._columns(oid))
         _check_columns(part, table)
+        self._check_left_out(part, table)
         return table
 
     def _free(self, schema: str, name: str) -> int | None:
@@ -311,6 +319,47 @@ class _Export:
             oid,
         ):
             raise ogr.ExchangeError(f"{ogr.printable(other)} inherits from {shown}, which no export replaces then")
+
+    def _check_left_out(self, part: Part, table: _Table) -> None:
+        """`ogr.ExchangeError` where a table has what no store has, or what its import has left out: it would be lost."""
+        self._check_flat(part, table)
+        origin = part.origin
+        if origin.identifier_column not in table.columns:
+            return
+        lost = [key for key, *_ in self._rows_of(table, origin.identifier_column, [], origin.left_out)]
+        if lost:
+            raise _left_out(part, f"features that its import has left out: {_several(lost)}")
+        columns = [_Column(number, part.columns[number], sort) for number, sort in part.sorts.items()]
+        columns = [column for column in columns if column.name in table.columns]
+        known = dict(_keyed(part, origin.identifier_column))
+        rows = self._rows_of(table, origin.identifier_column, [column.name for column in columns], origin.without)
+        for key, *texts in rows:
+            values = known.get(key)
+            for column, text in zip(columns, texts):
+                if values is not None and text is not None and values.get(column.number) is None:
+                    raise _left_out(part, f"a value of {ogr.printable(column.name)} that its import has left out, of {key}")
+
+    def _check_flat(self, part: Part, table: _Table) -> None:
+        """`ogr.ExchangeError` where geometries of a table have Z or M."""
+        shape = self.format("{}::{}", self.quoted(part.geometry_column), self.of_postgis("geometry"))
+        asked = self.format(
+            "SELECT count(*) FROM {} WHERE {}({}) > 2", self.quoted(table.schema, table.name), self.of_postgis("st_coorddim"), shape
+        )
+        [[count]] = self._run(asked).fetchall()
+        if count:
+            raise _left_out(part, f"Z or M in {count:,} geometries, which no store has")
+
+    def _rows_of(self, table: _Table, key: str, columns: Sequence[str], wanted: Sequence[int]) -> list[Any]:
+        """Rows of a table by their keys, which come first, and the values of some columns, all as texts."""
+        if not wanted:
+            return []
+        texts = self.plain(", ").join([self.format("{}::text", self.quoted(name)) for name in (key, *columns)])
+        asked = self.format(
+            "SELECT {} FROM {} AS t WHERE {}::text = ANY(%s) ORDER BY t.{}",
+            *(texts, self.quoted(table.schema, table.name), self.quoted(key), self.quoted(key)),
+        )
+        found: list[Any] = self._run(asked, [list(map(str, wanted))]).fetchall()
+        return found
 
     def _columns(self, oid: int) -> dict[str, _Known]:
         rows = self.rows(
@@ -375,6 +424,27 @@ def _check_columns(part: Part, table: _Table) -> None:
         )
 
 
+def _left_out(part: Part, what: str) -> ogr.ExchangeError:
+    return ogr.ExchangeError(
+        f"the table {ogr.printable(part.name)} has {what}. They would be lost: take them out of the table first, "
+        "or name another database or schema"
+    )
+
+
+def _several(names: Sequence[str]) -> str:
+    """The first ones of some names, and how many more there are."""
+    more = len(names) - _SHOWN
+    return ", ".join(names[:_SHOWN]) + (f" and {more:,} more" if more > 0 else "")
+
+
+def _keyed(part: Part, key: str) -> Iterator[tuple[str, dict[int, Any]]]:
+    """The values of the features by their keys in the source, which may stand in a column of theirs."""
+    numbers = [number for number, name in part.columns.items() if name == key]
+    for feature in part.layer.features:
+        values = dict(values_of(feature))
+        yield str(values.get(numbers[0]) if numbers else feature.id), values
+
+
 class _LayerExport:
     """Writes one layer to its table."""
 
@@ -419,6 +489,7 @@ class _LayerExport:
 
     def _empty(self) -> None:
         """Takes the rows away, and adds the columns that are missing."""
+        self._tell_gone()
         self._export.run("TRUNCATE ONLY {}", self._name)
         if self._part.identifier_column not in self._table.columns:
             # The table may have a key of its own.
@@ -426,6 +497,21 @@ class _LayerExport:
         for column in self._columns:
             if column.name not in self._table.columns:
                 self._export.run("ALTER TABLE {} ADD COLUMN {}", self._name, self._definition(column))
+
+    def _tell_gone(self) -> None:
+        """Says which rows the store has not: they were deleted there, or somebody else has added them."""
+        export, part = self._export, self._part
+        keys = [name for name in (part.origin.identifier_column, part.identifier_column) if name in self._table.columns]
+        if not keys:
+            return
+        known = {key for key, _ in _keyed(part, keys[0])}
+        quoted = export.quoted(keys[0])
+        with export.reading(export.format("SELECT {}::text FROM {} AS t ORDER BY t.{}", quoted, self._name, quoted)) as rows:
+            gone = [str(key) for [key] in rows if key not in known]
+        if gone:
+            count = f"{len(gone):,} rows" if len(gone) > 1 else "1 row"
+            shown = ogr.printable(_several(gone))
+            export.say(f"the table {ogr.printable(self._table.name)} has {count} that the store has not, and they are removed: {shown}")
 
     def _rows(self) -> Iterator[bytes]:
         """The features in the text format of COPY, some at a time."""
@@ -453,20 +539,38 @@ class _LayerExport:
 
     def count_on(self) -> None:
         """Has the database give the identifiers behind those that were given, by it or by the store."""
+        sequence = self._sequence()
+        if sequence is None:
+            return
         export = self._export
-        [[sequence]] = export.rows(
-            "SELECT pg_catalog.pg_get_serial_sequence(%s, %s)",
-            self._name.as_string(export.connection),
-            self._part.identifier_column,
+        is_set = export.rows(
+            # Where it is further on, it stays: what it has given may stand in other tables.
+            "SELECT pg_catalog.setval(%s, greatest(%s, pg_catalog.nextval(%s)), false) FROM pg_catalog.pg_sequence "
+            "WHERE seqrelid = %s::pg_catalog.regclass AND seqmax >= %s "
+            "AND pg_catalog.has_sequence_privilege(%s, 'UPDATE')",
+            *(sequence, self._part.next_id, sequence, sequence, self._part.next_id, sequence),
         )
-        if sequence is not None:
-            export.rows(
-                # Where it is further on, it stays: what it has given may stand in other tables.
-                "SELECT pg_catalog.setval(%s, greatest(%s, pg_catalog.nextval(%s)), false) FROM pg_catalog.pg_sequence "
-                "WHERE seqrelid = %s::pg_catalog.regclass AND seqmax >= %s "
-                "AND pg_catalog.has_sequence_privilege(%s, 'UPDATE')",
-                *(sequence, self._part.next_id, sequence, sequence, self._part.next_id, sequence),
+        if not is_set:
+            export.say(
+                f"the sequence {ogr.printable(sequence)} can't be set to {self._part.next_id}: "
+                f"the database may give {ogr.printable(self._table.name)} identifiers that the store has given"
             )
+
+    def _sequence(self) -> str | None:
+        """The sequence that gives the identifiers of the table: its own, or one that its default names."""
+        export, name = self._export, self._name.as_string(self._export.connection)
+        [[own]] = export.rows("SELECT pg_catalog.pg_get_serial_sequence(%s, %s)", name, self._part.identifier_column)
+        if own is not None:
+            return str(own)
+        named = export.rows(
+            "SELECT c.oid::pg_catalog.regclass::text FROM pg_catalog.pg_attribute a "
+            "JOIN pg_catalog.pg_attrdef f ON f.adrelid = a.attrelid AND f.adnum = a.attnum "
+            "JOIN pg_catalog.pg_depend d ON d.classid = 'pg_catalog.pg_attrdef'::pg_catalog.regclass AND d.objid = f.oid "
+            "JOIN pg_catalog.pg_class c ON d.refclassid = 'pg_catalog.pg_class'::pg_catalog.regclass AND c.oid = d.refobjid "
+            "WHERE a.attrelid = %s::pg_catalog.regclass AND a.attname = %s AND c.relkind = 'S' ORDER BY 1",
+            *(name, self._part.identifier_column),
+        )
+        return str(named[0][0]) if len(named) == 1 else None
 
     def read_back(self) -> None:
         """`ogr.ExchangeError` where the table has anything else than the layer."""

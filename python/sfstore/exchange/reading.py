@@ -17,7 +17,7 @@ from sfstore.faults import fault_at
 from sfstore.geometry import KINDS, NotTaken, Shape, read_wkb, write_wkb, write_wkt
 from sfstore.language import COLUMNS_MAX, IDENTIFIER_MAX, POINTS_MAX
 from sfstore.refusals import words_of
-from sfstore.sidecar import ColumnOrigin, LayerOrigin
+from sfstore.sidecar import LEFT_MAX, ColumnOrigin, LayerOrigin
 from sfstore.store import Kind, Refused, Store
 from sfstore.storefile import INT, FileColumn, FileFeature, FileLayer
 
@@ -91,8 +91,10 @@ class LayerImport:
         self._rounding = Rounding(taking.rounds)
         self._flattened = 0
         self._parted: list[int] = []
+        self._types = types or {}
+        self._names: Mapping[str, str] = left.names if left else {}
         known = types if types is not None else left.types if left else {}
-        self._fields = layer.columns(taking.as_text, left.names if left else {}, known)
+        self._fields = layer.columns(taking.as_text, self._names, known)
         self._origins: list[ColumnOrigin] = []
         self._columns: list[FileColumn] = []
         self._identifiers: list[int] = []
@@ -138,12 +140,17 @@ class LayerImport:
 
     def origin(self) -> LayerOrigin:
         """What the side-car keeps of the layer."""
+        told = self._report.identifiers(self._source_name)
+        taken = {self._source_of(feature.id) for feature in self._features} if told else set()
         return LayerOrigin(
             self._name,
             kept_name(self._layer.name, self._name),
             kept_name(self._layer.identifier_column, ""),
             kept_name(self._layer.geometry_column, ""),
             self._origins,
+            sorted(told - taken)[:LEFT_MAX],
+            sorted(told & taken)[:LEFT_MAX],
+            [kept_name(name, "") for left in self._fields.left for name in left.names] + ([_NO_PLACE] if self._flattened else []),
         )
 
     def _batches(self) -> Iterator[list[_Candidate]]:
@@ -287,6 +294,7 @@ class LayerImport:
     def _number_features(self) -> None:
         """Has identifiers that a store can have, and the features in their order."""
         if not self._taking.keeps_identifiers:
+            self._keep_identifiers_again()
             return
         identifiers = self._identifiers
         least, most = min(identifiers, default=1), max(identifiers, default=1)
@@ -304,21 +312,28 @@ class LayerImport:
             for at, place in enumerate(self._further, 1):
                 numbers[place] = most + shift + at
         if not is_kept and self._layer.identifier_column:
-            self._keep_identifiers()
+            name = Names(column.name for column in self._columns).new(self._layer.identifier_column)
+            self._keep_identifiers(name)
+            self._note(f"identifiers that the store can't have are in the column {name}")
         if numbers != sources:
             self._source_of = _sources_of(numbers, sources)
             self._features = [feature._replace(id=number) for feature, number in zip(self._features, numbers)]
         self._features.sort(key=lambda feature: feature.id)
 
-    def _keep_identifiers(self) -> None:
-        """Has the identifiers that the source has in a column in one of the store, as these are no other's."""
+    def _keep_identifiers_again(self) -> None:
+        """Has identifiers in the column of the store's layer that has those of the features before, where it has such a one."""
         source_name = self._layer.identifier_column
-        name = Names(column.name for column in self._columns).new(source_name)
+        name = self._names.get(source_name, source_name)
+        if self._types.get(name) == "int" and name not in [column.name for column in self._columns]:
+            self._keep_identifiers(name)
+            self._note(f"identifiers of the source are in the column {name}")
+
+    def _keep_identifiers(self, name: str) -> None:
+        """Has the identifiers that the source has in a column in one of the store, as these are no other's."""
         number = len(self._columns) + 1
         self._columns.append(FileColumn(number, INT, name))
-        self._origins.append(ColumnOrigin(name, kept_name(source_name, name), INTEGER_64, "None", 0))
+        self._origins.append(ColumnOrigin(name, kept_name(self._layer.identifier_column, name), INTEGER_64, "None", 0))
         self._features = [feature._replace(values={**feature.values, number: feature.id}) for feature in self._features]
-        self._note(f"identifiers that the store can't have are in the column {name}")
 
     def _kind(self) -> int:
         """The declared kind where all features have it, that of a Shapefile's Multi forms, else that any is taken."""

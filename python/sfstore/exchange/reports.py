@@ -74,6 +74,10 @@ class Report:
         """Reports something that did not fit."""
         self.problems.append(Problem(layer, identifier, reason, detail, geometry))
 
+    def identifiers(self, layer: str) -> set[int]:
+        """The features of a layer of which something was left out, or all, by their identifiers in the source."""
+        return {each.identifier for each in self.problems if each.layer == layer and each.identifier is not None}
+
     def change(self, layer: str, identifier: int, reason: str, detail: str = "") -> None:
         """Reports a feature that was changed, as somebody has asked for, and not left out."""
         self.changes.append(Problem(layer, identifier, reason, detail, None))

@@ -19,6 +19,7 @@ from sfstore.exchange.layers import STRANGER, Feature, Layer, Lost, Source
 from sfstore.exchange.shapefiles import beside, deleted_records, index_fault, table_fault
 from sfstore.exchange.srids import strangers
 from sfstore.exchange.stamps import BESIDE, archive_of, changed, mode_of, stamps_of
+from sfstore.exchange.views import check_end
 from sfstore.sidecar import Crs
 
 __all__ = ["Opened", "check_unchanged", "mode_for", "open_source"]
@@ -109,6 +110,7 @@ def _opened(name: str, any_format: bool, is_measured: bool = False) -> Source:
         check_size(name)
     if jsontext.is_json(name) and not (any_format and ogr.format_of(name) not in (*_JSON, "")):
         return Source(name, [JsonLayer(name)], files)
+    check_end(name)
     data = ogr.open_data(name, None if any_format else list(ogr.DRIVERS))
     if data.GetDriver().ShortName in _JSON and not any_format:
         # OGR reads it otherwise: it changes numbers, and drops names that stand twice, without a word.

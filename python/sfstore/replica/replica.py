@@ -109,6 +109,8 @@ class Replica:
         self._progress = progress
         self._trust = trust
         self._question_seconds = question_seconds
+        # The keys of the lines that were written last.
+        self._awaited: frozenset[str] = frozenset()
         self._teller = Teller(tell)
         # Others that differ are told of once, however often the servers are told of meanwhile.
         self._differing = Teller(tell)
@@ -191,30 +193,37 @@ class Replica:
         `NotAcknowledged` if an edit could not be written and kept in time. `LogUnreachable`
         if a store that begins again can't get in time to the place that was shown before.
         """
-        taken = [asked(_checked(line)) for line in lines]
         outcomes: list[Outcome] = []
+        try:
+            for outcome in self.answers(lines):
+                outcomes.append(outcome)
+        except NotAcknowledged as error:
+            error.answered = outcomes
+            raise
+        return outcomes
+
+    def answers(self, lines: Iterable[str]) -> Iterator[Outcome]:
+        """The answers of lines as `run_all` has them, each as soon as it is known.
+
+        So they are there too where a later line raises something: `LogRefused`, or `ReplicaStopped`.
+        """
+        return self._answers_of([asked(_checked(line)) for line in lines])
+
+    def _answers_of(self, lines: Iterable[Asked]) -> Iterator[Outcome]:
+        """The answers of lines. Edits that stand behind one another are written as one."""
         edits: list[Asked] = []
-        for line in taken:
+        for line in lines:
             refusal = self._refusal(line)
             is_edit = line.is_edit and refusal is None
             if edits and (not is_edit or len(edits) == _GROUP_LINES or _size(edits) > _GROUP_BYTES):
-                self._write_behind(outcomes, edits)
+                yield from self.write([edit.line for edit in edits])
                 edits = []
             if is_edit:
                 edits.append(line)
             else:
-                outcomes.append(refusal or self._answer(line.line))
+                yield refusal or self._answer(line.line)
         if edits:
-            self._write_behind(outcomes, edits)
-        return outcomes
-
-    def _write_behind(self, outcomes: list[Outcome], edits: Sequence[Asked]) -> None:
-        """Has edits put down, and their answers behind those that there are."""
-        try:
-            outcomes += self.write([edit.line for edit in edits])
-        except NotAcknowledged as error:
-            error.answered = outcomes
-            raise
+            yield from self.write([edit.line for edit in edits])
 
     def write(self, lines: Sequence[str], keys: Sequence[str] | None = None) -> list[Outcome]:
         """Has edits written as one, and gives the answers that the store here has for them.
@@ -227,6 +236,7 @@ class Replica:
         if len(lines) > _GROUP_LINES:
             raise ValueError(f"{_GROUP_LINES} lines can be put down at once, not {len(lines)}")
         until = time.monotonic() + self._patience
+        self._awaited = frozenset(keys)
         try:
             places = self._writing.append(keys, lines, until)
             self._catch_up(max(places, default=0), until)
@@ -311,7 +321,8 @@ class Replica:
         self._login = self._following.login()
         self._own_number = self._writing.own_number(until)
         if begin_from is not None:
-            self._bring(Path(begin_from))
+            given = Path(begin_from)
+            self._snapshots.bring(given, lambda copy: self._check_brought(given, copy))
         self._check_chain()
         self._load(until)
         try:
@@ -329,16 +340,13 @@ class Replica:
         if self._snapshot is not None:
             self._fence.at, self._fence.chain = self._snapshot.at, self._snapshot.chain
 
-    def _bring(self, given: Path) -> None:
-        """Takes the file of another replica, after a look at what the log has of it."""
-        brought = self._snapshots.bring(given)
-        total = files.digest(str(brought.path))
-        sums = self._following.sums(brought.at)
+    def _check_brought(self, given: Path, copy: Snapshot) -> None:
+        """`ReplicaStopped` where the file of another replica is not what the log has of it."""
+        sums = self._following.sums(copy.at)
         wanted = {sums[self._trust]} if self._trust in sums else set(sums.values())
-        if self._following.chain_at_cut(brought.at) != brought.chain or wanted != {total}:
-            self._snapshots.put_aside(brought)
+        if self._following.chain_at_cut(copy.at) != copy.chain or wanted != {files.digest(str(copy.path))}:
             raise ReplicaStopped(
-                f"{given} is not what all replicas had at place {brought.at}: begin from another one's file"
+                f"{given} is not what all replicas had at place {copy.at}: begin from another one's file"
             )
 
     def _load(self, until: float | None = None) -> None:
@@ -470,6 +478,9 @@ class Replica:
             if isinstance(outcome, Refused) and outcome.number == 1:
                 raise _GivenUp(f"place {entry.at} was answered: refused 1 Memory")
         for entry, outcome in zip(entries, outcomes):
+            if entry.key in self._awaited:
+                # The owner may have given the login another number meanwhile.
+                self._own_number = entry.editor
             if entry.editor == self._own_number:
                 self._note(entry, outcome)
         self._fence.at, self._fence.chain = entries[-1].at, entries[-1].chain

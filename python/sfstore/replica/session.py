@@ -102,7 +102,7 @@ class _Peer:
         """Answers the lines that are there, which are written together. False where no more come.
 
         A last line without a line feed counts. A group is answered when its last line is there. Where a
-        line is not acknowledged, those before it are answered.
+        line is not acknowledged, or ends all, those before it are answered.
         """
         data = self._read(_READ_BYTES)
         *lines, self._rest = (self._rest + data).split(b"\n")
@@ -116,13 +116,9 @@ class _Peer:
                 written.append(answer)
             if not data and self._group is not None:
                 written.append(self._group.end(replica))
-        except NotAcknowledged as error:
-            written += map(_written, error.answered)
-            raise
         finally:
             self._send(b"".join(written))
         return bool(data)
-
 
     def _answers(self, replica: Replica, lines: list[bytes]) -> Iterator[bytes]:
         """The answers of lines, but of blank ones and those inside of groups, which have none."""
@@ -136,10 +132,10 @@ class _Peer:
             if isinstance(text, str):
                 taken.append(text)
                 continue
-            yield from map(_written, replica.run_all(taken))
+            yield from map(_written, replica.answers(taken))
             taken = []
             yield text
-        yield from map(_written, replica.run_all(taken))
+        yield from map(_written, replica.answers(taken))
 
     def _taken(self, line: bytes) -> str | bytes | None:
         """What a line gives to be carried out, or is answered with; none where a group goes on."""

@@ -13,6 +13,7 @@ import os
 import re
 import shutil
 import uuid
+from collections.abc import Callable
 from pathlib import Path
 from typing import NamedTuple
 
@@ -82,14 +83,22 @@ class Snapshots:
         """Takes a file out that was found to differ."""
         files.replace(str(wrong.path), f"{wrong.path}.wrong")
 
-    def bring(self, given: Path) -> Snapshot:
-        """Copies the file of another replica. `ValueError` where its name is not that of one."""
+    def bring(self, given: Path, check: Callable[[Snapshot], object]) -> None:
+        """Copies the file of another replica. `ValueError` where its name is not that of one.
+
+        The copy is kept once ``check`` has looked at it. Where that raises something it is gone, and no other one.
+        """
         found = _NAME.fullmatch(given.name)
         if found is None:
             raise ValueError(f"{given} is no file of a replica: its name has to say place and chain")
-        aside = self.aside()
-        shutil.copyfile(given, aside)
-        return self.keep(aside, int(found[1]), bytes.fromhex(found[2]))
+        copy = Snapshot(int(found[1]), bytes.fromhex(found[2]), self.aside())
+        try:
+            shutil.copyfile(given, copy.path)
+            check(copy)
+        except BaseException:
+            copy.path.unlink()
+            raise
+        self.keep(copy.path, copy.at, copy.chain)
 
     def _all(self) -> list[Snapshot]:
         found = ((_NAME.fullmatch(name), name) for name in os.listdir(self._folder))

@@ -20,18 +20,23 @@ from sfstore.mapunits import MapUnits, NoPlace
 from sfstore.refusals import words_of
 from sfstore.store import Answer, Refused, Store, Value
 from sfstore.values import spelled
+from sfstore.web.background import Background
 from sfstore.web.batches import LineRefused, batch_of
 from sfstore.web.changed import changed_by, merged
 from sfstore.web.changes import Change, Target, features_of, seen_of
 from sfstore.web.editors import Editors
 from sfstore.web.events import Events
+from sfstore.web.history import ENTRIES_MAX, History
 from sfstore.web.keeper import Asked, ChangedMeanwhile, Edit, Keeper, Unavailable
 from sfstore.web.logins import Logins
 from sfstore.web.mirror import Mirror
 from sfstore.web.pictures import LEVEL_MAX, Picture, Pictures, Tile
 from sfstore.web.raster import png
 from sfstore.web.rows import identifiers_of, ids_of, rows_of
+from sfstore.web.scales import metres_of
 from sfstore.web.steps import Step
+from sfstore.web.styles import StyleError, Styles, renamed_by, style_of
+from sfstore.web.tables import PAGE_MAX, Reading, Tables, Wanted, conditions_of, labels_of
 from sfstore.web.windows import ELEMENTS_MAX, Box, extent_of, shapes_of, window_of
 
 __all__ = ["BadCall", "Calls", "Outdated"]
@@ -77,18 +82,27 @@ class Calls:
     question that takes long delays no map.
     """
 
-    def __init__(self, path: str, keeper: Keeper, program: str, seconds: float) -> None:
+    def __init__(self, path: str, keeper: Keeper, program: str, seconds: float, background: Background | None = None) -> None:
         self.events = Events()
+        self._background = background
         self._title = os.path.basename(path)
-        self._grid, self._units = _grid_of(path)
+        self._grid, self._units, self.grid_fault = _grid_of(path)
+        """The last is why coordinates are steps, where the store has a side-car; else empty."""
         self._keeper = keeper
         self._program = program
         self._editors = Editors(path)
         self.logins = Logins(self._editors)
-        self._looks = Mirror(keeper, program, seconds)
+        self.styles = Styles(path)
+        self._history = History()
+        self._looks = Mirror(keeper, program, seconds, self._history)
         self._pictures = Pictures()
         self._drawer = Mirror(keeper, program, seconds, self._pictures)
-        self._questions = Mirror(keeper, program, seconds)
+        self._tables = Tables()
+        self._questions = Mirror(keeper, program, seconds, self._tables)
+        for step in keeper.done():
+            changes = merged(changed_by(step.line, step))
+            line = self._shown_line(step.line)
+            self._history.take(self._editors.name_of(step.editor), line, line, changes, is_now=False)
         keeper.follow.append(self._tell_edits)
         keeper.anew.append(lambda: self.events.tell({"anew": True}))
         self.by_path: dict[str, Callable[[int, Body], Body]] = {
@@ -102,6 +116,11 @@ class Calls:
             "/batch": self._batch,
             "/ids": self._ids,
             "/rows": self._rows,
+            "/table": self._table,
+            "/labels": self._labels,
+            "/history": self._history_of,
+            "/styles": self._styles_of,
+            "/style": self._style,
         }
 
     def close(self) -> None:
@@ -133,15 +152,18 @@ class Calls:
 
         version, to_undo, to_redo = self._keeper.steps()
         steps = {"undo": self._step(to_undo), "redo": self._step(to_redo)}
-        return {"title": self._title, "grid": self._grid, "version": version, **steps, **self._looks.ask(editor, question)}
+        told = {"title": self._title, "grid": self._grid, "grid_fault": self.grid_fault or None, "version": version}
+        told |= {"background": self._background and self._background._asdict()}
+        return {**told, **steps, **self._looks.ask(editor, question)}
 
     def _window(self, editor: int, body: Body) -> Body:
         """What a box has of the layers that are named."""
         box, wanted = _box(body), _names(body)
+        inner = None if body.get("window") is None else _box(body, "window")
 
         def question(store: Store) -> Body:
             layers = [layer.name for layer in store.layers() if layer.name in wanted]
-            return {"layers": window_of(store, layers, box), "most": ELEMENTS_MAX}
+            return {"layers": window_of(store, layers, box, inner), "most": ELEMENTS_MAX}
 
         return self._looks.ask(editor, question)
 
@@ -269,6 +291,50 @@ class Calls:
         layer, features = spelling.name(_text(body, "layer")), ids_of(body.get("ids"))
         return self._looked(editor, layer, lambda store: {"rows": rows_of(store, layer, features)})
 
+    def _table(self, editor: int, body: Body) -> Body:
+        """A page of a layer's table; or how much of the table is read, so that the page asks again."""
+        wanted, questions = _wanted(body), self._questions
+        try:
+            return questions.ask(
+                editor, lambda store: {**self._tables.page(store, wanted), "version": questions.version}
+            )
+        except Reading as reading:
+            return {"read": reading.read, "total": reading.total}
+        except Refused as refused:
+            return {"refused": self._refusal(refused, f"columns {wanted.layer}")}
+
+    def _labels(self, editor: int, body: Body) -> Body:
+        """The values of features in a column, of those that have one."""
+        layer, column, features = spelling.name(_text(body, "layer")), _text(body, "column"), ids_of(body.get("ids"))
+        return self._looked(editor, layer, lambda store: {"labels": labels_of(store, layer, column, features)})
+
+    def _history_of(self, editor: int, body: Body) -> Body:
+        """What was done, the newest first; or what was done before something of it."""
+        before = None if body.get("before") is None else _number(body, "before", 0, 2**53)
+        return self._history.page(before, _number(body, "count", 1, ENTRIES_MAX))
+
+    def _styles_of(self, editor: int, body: Body) -> Body:
+        """How layers look, by their names, and what is wrong with the file that says it, if anything is."""
+        return {"styles": self.styles.all(), "fault": self.styles.fault}
+
+    def _style(self, editor: int, body: Body) -> Body:
+        """Has a layer look otherwise, for all: a whole style, some fields of it, or as it does by itself where none is given."""
+        layer = spelling.name(_text(body, "layer"))
+        told = self._looked(editor, layer, lambda store: {"columns": len(store.columns(layer))})
+        if "refused" in told:
+            return told
+        try:
+            if "fields" in body:
+                self.styles.change(layer, body["fields"])
+            else:
+                self.styles.set(layer, None if body.get("style") is None else style_of(body["style"]))
+        except StyleError as error:
+            raise BadCall(f"{error}" if error.args[0] == self.styles.fault else f"{error}: nothing was changed") from None
+        except OSError as error:
+            raise Unavailable(f"The styles can't be written beside the store: {error.strerror}. Nothing was changed.") from error
+        self.events.tell({"styled": layer})
+        return {}
+
     def _looked(self, editor: int, layer: str, question: Callable[[Store], Body]) -> Body:
         """What a question about a layer gives, with the version that it is of; or that there is no such layer."""
         looks = self._looks
@@ -292,6 +358,7 @@ class Calls:
 
     def _save(self, editor: int) -> Body:
         self._keeper.save()
+        self._history.take(self._editors.name_of(editor), "save", "save")
         self.events.tell({"saved": self._editors.name_of(editor), "undo": None, "redo": None})
         return {"text": f"{self._title} is saved. The history begins anew."}
 
@@ -339,21 +406,24 @@ class Calls:
         elif len({edit.line for edit in edits}) > 1:
             line, did = f"together {len(edits)}", edits[0].step.line if last.stays else "refused, and taken back"
         changes = [change for edit in edits if edit.stays for change in changed_by(edit.line, edit.step)]
-        self.events.tell(
-            {
-                "version": last.version,
-                "number": last.editor,
-                "page": last.page,
-                "editor": self._editors.name_of(last.editor),
-                "line": line,
-                "step": did,
-                "shown": self._shown_line(line),
-                "shown_step": self._shown_line(did),
-                "undo": self._step(last.to_undo),
-                "redo": self._step(last.to_redo),
-                "changed": merged(changes),
-            }
-        )
+        for edit in edits:
+            if self.styles.rename(renamed_by(edit)):
+                self.events.tell({"styled": None})
+        told: Body = {
+            "version": last.version,
+            "number": last.editor,
+            "page": last.page,
+            "editor": self._editors.name_of(last.editor),
+            "line": line,
+            "step": did,
+            "shown": self._shown_line(line),
+            "shown_step": self._shown_line(did),
+            "undo": self._step(last.to_undo),
+            "redo": self._step(last.to_redo),
+            "changed": merged(changes),
+        }
+        self._history.take(told["editor"], told["shown"], told["shown_step"], told["changed"], last.version)
+        self.events.tell(told)
 
     def _step(self, step: Step | None) -> Body | None:
         if step is None:
@@ -468,18 +538,40 @@ def _told_tile(tile: Tile, picture: Picture, seen: int) -> Body:
     return {**told, "png": b64encode(png(picture.cells)).decode() if picture.packed else None}
 
 
-def _grid_of(path: str) -> tuple[Body | None, MapUnits | None]:
-    """The grid of the map that a store was imported from, as pages have it, and its units; none where none is known."""
+def _grid_of(path: str) -> tuple[Body | None, MapUnits | None, str]:
+    """The grid of the map that a store was imported from, as pages have it, its units, and why it is not known.
+
+    Where none is known coordinates are steps, as those of a store that was never imported.
+    """
+    if not os.path.lexists(sidecar.path_of(path)):
+        return None, None, ""
     try:
-        found = sidecar.read(path) if os.path.lexists(sidecar.path_of(path)) else None
-        units = MapUnits(*found.grid) if found else None
-    except (sidecar.SidecarError, OSError, ValueError):
-        # Coordinates are steps then, as those of a store that was never imported.
-        return None, None
-    if found is None:
-        return None, None
+        found = sidecar.read(path)
+        units = MapUnits(*found.grid)
+    except (sidecar.SidecarError, OSError, ValueError) as error:
+        return None, None, f"Coordinates are steps of the grid: {error}"
     x, y, step = found.grid
-    return {"x": x, "y": y, "step": step, "crs": str(found.crs) if found.crs else None}, units
+    crs = found.crs
+    return {"x": x, "y": y, "step": step, "crs": str(crs) if crs else None, "metres": metres_of(crs.wkt) if crs else None}, units, ""
+
+
+def _wanted(body: Body) -> Wanted:
+    """Which page of which table is asked for."""
+    sort, falling, around = body.get("sort"), body.get("falling", False), body.get("around")
+    if sort is not None and not isinstance(sort, str):
+        raise BadCall("sort has to be a column or null")
+    if not isinstance(falling, bool):
+        raise BadCall("falling has to be true or false")
+    return Wanted(
+        spelling.name(_text(body, "layer")),
+        sort,
+        falling,
+        conditions_of(body.get("conditions", [])),
+        None if body.get("box") is None else _box(body),
+        _number({"from": 0, **body}, "from", 0, 2**32),
+        _number(body, "count", 1, PAGE_MAX),
+        None if around is None else _number(body, "around", 0, 2**32 - 1),
+    )
 
 
 def _names(body: Body) -> set[str]:
@@ -489,11 +581,11 @@ def _names(body: Body) -> set[str]:
     return set(names)
 
 
-def _box(body: Body) -> Box:
-    box = body.get("box")
+def _box(body: Body, name: str = "box") -> Box:
+    box = body.get(name)
     if not isinstance(box, list) or len(box) != 4 or not all(type(side) is int for side in box):
-        raise BadCall("box has to be four whole numbers")
+        raise BadCall(f"{name} has to be four whole numbers")
     left, bottom, right, top = box
     if not (GRID_MIN <= left <= right <= GRID_MAX and GRID_MIN <= bottom <= top <= GRID_MAX):
-        raise BadCall("box has to be on the grid, its least corner first")
+        raise BadCall(f"{name} has to be on the grid, its least corner first")
     return left, bottom, right, top

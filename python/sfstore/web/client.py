@@ -12,6 +12,7 @@ import contextlib
 import json
 import os
 import socket
+import struct
 import subprocess  # nosec B404: the server is started, without a shell.
 import sys
 import tempfile
@@ -24,15 +25,21 @@ from typing import IO, Any, NamedTuple
 import sfstore
 from sfstore.web.socketed import address_of, socket_of
 
-__all__ = ["CallFailed", "Client", "Events", "ServerGone", "start_server"]
+__all__ = ["AnothersServer", "CallFailed", "Client", "Events", "ServerGone", "start_server"]
 
 _SECONDS = 10.0
 _STARTING_SECONDS = 60.0
 _READ_BYTES = 1 << 20
+# What Linux knows of the process at the other end of a socket: its number, its user and its group.
+_PEER = struct.Struct("3i")
 
 
 class ServerGone(Exception):
     """No server answers: there is none, it has ended, or it takes too long. The text says which."""
+
+
+class AnothersServer(ServerGone):
+    """Another user answers in the server's place. Nothing was said to them."""
 
 
 class CallFailed(Exception):
@@ -196,16 +203,34 @@ class Events:
 
 
 def _connected(store: str, seconds: float) -> socket.socket:
-    """A connection to a store's server. `ServerGone` where there is none."""
+    """A connection to a store's server. `ServerGone` where there is none, `AnothersServer` where it is no server of ours."""
     connection = socket.socket(socket.AF_UNIX)
     connection.settimeout(seconds)
     try:
         with address_of(socket_of(store)) as address:
             _connect(connection, address, time.monotonic() + seconds)
+        _check_peer(connection, store)
     except OSError as error:
         connection.close()
         raise ServerGone(f"No server of {store} is there: {error.strerror or error}.") from error
+    except BaseException:
+        connection.close()
+        raise
     return connection
+
+
+def _check_peer(connection: socket.socket, store: str) -> None:
+    """`AnothersServer` where another user than this one, or root, listens: whoever may write in the folder can put a socket there."""
+    asked = getattr(socket, "SO_PEERCRED", None)
+    if asked is None:
+        # Another system than Linux, which tells it in another way.
+        return
+    _, user, _ = _PEER.unpack(connection.getsockopt(socket.SOL_SOCKET, asked, _PEER.size))
+    if user not in (os.geteuid(), 0):
+        raise AnothersServer(
+            f"{socket_of(store)} is another user's (number {user}), who would be told all: take it away, or move the store "
+            "to a folder in which you alone may write."
+        )
 
 
 def _connect(connection: socket.socket, address: str, until: float) -> None:
@@ -223,7 +248,8 @@ def _connect(connection: socket.socket, address: str, until: float) -> None:
 def start_server(store: str, program: str = "sfstore", seconds: float = _STARTING_SECONDS) -> None:
     """Has a server of a store answer, where none does: it ends when nobody uses it any more.
 
-    `ServerGone` where it can't be had, with what it says, or is not there within some seconds.
+    `ServerGone` where it can't be had, with what it says, or is not there within some seconds. `AnothersServer` where
+    another user answers in its place.
     """
     if _is_there(store):
         return
@@ -254,9 +280,11 @@ _servers: dict[str, _Server] = {}
 
 
 def _is_there(store: str) -> bool:
-    """Whether a server can be connected to, be it busy or not. It takes no time."""
+    """Whether a server can be connected to, be it busy or not. It takes no time. `AnothersServer` where it is no server of ours."""
     try:
         _connected(store, 0.0).close()
+    except AnothersServer:
+        raise
     except ServerGone as gone:
         return isinstance(gone.__cause__, BlockingIOError)
     return True

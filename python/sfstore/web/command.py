@@ -13,9 +13,10 @@ import time
 from collections.abc import Callable, Iterator
 
 from sfstore.commandline import add_version, counted, recovered_words
-from sfstore.journal import JournalError
+from sfstore.journal import JournalError, path_of
 from sfstore.store import ProgramEnded
 from sfstore.storefile import fault_words
+from sfstore.web.background import Background, background_of
 from sfstore.web.calls import Calls
 from sfstore.web.editors import EditorsError
 from sfstore.web.keeper import Keeper
@@ -41,7 +42,12 @@ _LOOK_SECONDS = 0.5
 
 def main(words: list[str] | None = None) -> int:
     """Carries out the command, and gives its status."""
-    asked = _parser().parse_args(words)
+    parser = _parser()
+    asked = parser.parse_args(words)
+    try:
+        background = background_of(asked.background, asked.credit) if asked.background else None
+    except ValueError as error:
+        parser.error(str(error))
     try:
         keeper = Keeper(asked.file, asked.program, _EDIT_TIMES * asked.seconds)
     except ProgramEnded as ended:
@@ -50,13 +56,14 @@ def main(words: list[str] | None = None) -> int:
     except (JournalError, OSError) as error:
         return _failed(str(error))
     try:
-        return _serve(asked, keeper)
+        return _serve(asked, keeper, background)
     except (EditorsError, OSError) as error:
         return _failed(str(error))
     finally:
         unsaved = keeper.close()
         if unsaved:
-            print(f"{counted(unsaved, 'edit is', 'edits are')} in {asked.file}.journal, and there when it is opened again.")
+            path = path_of(os.path.realpath(asked.file))
+            print(f"{counted(unsaved, 'edit is', 'edits are')} in {path}, and there when it is opened again.")
 
 
 def _parser() -> argparse.ArgumentParser:
@@ -78,6 +85,10 @@ def _parser() -> argparse.ArgumentParser:
     parser.add_argument(
         "--while-used", action="store_true", help="end once the last page and the last program have left"
     )
+    parser.add_argument(
+        "--background", metavar="ADDRESS", help="tiles under the map, such as https://HOST/{z}/{x}/{y}.png; pages ask that server"
+    )
+    parser.add_argument("--credit", default="", metavar="TEXT", help="who made the background: it stands at the map")
     parser.add_argument("--program", default="sfstore", help="the program sfstore")
     add_version(parser)
     return parser
@@ -102,11 +113,13 @@ def _failed(reason: str) -> int:
     return 3
 
 
-def _serve(asked: argparse.Namespace, keeper: Keeper) -> int:
+def _serve(asked: argparse.Namespace, keeper: Keeper, background: Background | None) -> int:
     """Serves the page until Ctrl-C, or until the process is told to end."""
-    calls = Calls(asked.file, keeper, asked.program, asked.seconds)
+    calls = Calls(asked.file, keeper, asked.program, asked.seconds, background)
     try:
-        with Server(calls, asked.port) as server:
+        if calls.styles.fault:
+            print(f"sfstore-web: {calls.styles.fault}", file=sys.stderr)
+        with Server(calls, asked.port, background) as server:
             for number in (signal.SIGINT, signal.SIGTERM):
                 signal.signal(number, signal.default_int_handler)
             # In the background nothing can be read, and trying it shall not stop the process.
@@ -150,6 +163,8 @@ def _end_unused(server: Server, programs: Callable[[], int]) -> None:
 def _told(server: Server, keeper: Keeper, asked: argparse.Namespace) -> Iterator[None]:
     """Tells where the page is, and opens it where there is a browser, while the body serves it."""
     edits, torn = keeper.recovered
+    if server.calls.grid_fault:
+        print(f"sfstore-web: {server.calls.grid_fault}", file=sys.stderr)
     if edits:
         print(recovered_words(edits))
     if torn:

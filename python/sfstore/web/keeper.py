@@ -4,6 +4,7 @@ from __future__ import annotations
 
 import os
 import threading
+import time
 import warnings
 from collections.abc import Callable, Sequence
 from concurrent.futures import ThreadPoolExecutor
@@ -23,6 +24,8 @@ _T = TypeVar("_T")
 
 # How long an edit may take, and a line of a batch more. One that is stopped kept everybody's edits waiting.
 _EDIT_SECONDS, _LINE_SECONDS = 60.0, 0.005
+# How many versions each second has room for, as a power of 2: no program carries out so many edits.
+_VERSIONS_OF_A_SECOND = 20
 
 
 class Unavailable(Exception):
@@ -57,7 +60,7 @@ class Edit(NamedTuple):
     """An accepted edit, undo or redo."""
 
     version: int
-    """How many there were since the session began, this one counted."""
+    """The version of the store that it makes: each edit makes the next one."""
     editor: int
     page: str
     line: str
@@ -110,7 +113,8 @@ class Keeper:
         self._steps = Steps()
         self._log = BatchLog(path)
         self._changes = Changes()
-        self._version = 0
+        # Above all of an earlier server: what somebody has seen there is none of these, and has to be looked at again.
+        self._version = int(time.time()) << _VERSIONS_OF_A_SECOND
         self._file = 0
         self._thread = ThreadPoolExecutor(1, "keeper")
         try:
@@ -165,6 +169,10 @@ class Keeper:
     def steps(self) -> tuple[int, Step | None, Step | None]:
         """The version, and what an undo and a redo would move."""
         return self._do(lambda store: (self._version, self._steps.to_undo, self._steps.to_redo))
+
+    def done(self) -> list[Step]:
+        """What was done since the last save and is not undone, in its order."""
+        return self._do(lambda store: self._steps.done)
 
     def close(self) -> int:
         """Ends the program, and gives the number of edits that are in the journal alone."""
@@ -334,7 +342,8 @@ class Keeper:
             return
         for target in seen_of(asked.line):
             change = self._changes.since(target, asked.seen, asked.editor, asked.page)
-            if change is not None or not self._changes.is_known_since(asked.seen):
+            is_known = self._changes.is_known_since(asked.seen) and asked.seen <= self._version
+            if change is not None or not is_known:
                 raise ChangedMeanwhile(target, change)
 
     def _save(self, store: Store) -> None:

@@ -140,6 +140,10 @@ class Mirror:
         except ProgramEnded:
             self._drop()
             return
+        except BaseException:
+            # As for want of memory. Nobody waits for this: what is asked next would miss these edits, and has to have them.
+            self._drop()
+            raise
         if any(isinstance(answer, Refused) for answer in answers):
             self._drop()
             return

@@ -21,6 +21,7 @@ from importlib.resources import files
 from typing import Any
 from urllib.parse import urlencode
 
+from sfstore.web.background import Background
 from sfstore.web.calls import Calls
 from sfstore.web.connections import Connections
 from sfstore.web.incoming import Incoming
@@ -55,6 +56,15 @@ _GUARDS = {
     "X-Frame-Options": "DENY",
 }
 
+
+def _guards(background: Background | None) -> dict[str, str]:
+    """The headers of each answer. Pictures come from this server alone, and from that of the background where there is one."""
+    if background is None:
+        return _GUARDS
+    policy = _GUARDS["Content-Security-Policy"].replace("img-src 'self'", f"img-src 'self' {background.origin}")
+    return {**_GUARDS, "Content-Security-Policy": policy}
+
+
 _NO_KEY = "open a link of sfstore-web; who runs it can type `link` for one"
 
 
@@ -74,9 +84,10 @@ class Server(ThreadingHTTPServer):
     daemon_threads = True
     request_queue_size = 128
 
-    def __init__(self, calls: Calls, port: int) -> None:
+    def __init__(self, calls: Calls, port: int, background: Background | None = None) -> None:
         self.calls = calls
         self.files = _static_files()
+        self.guards = _guards(background)
         self.connections = Connections()
         super().__init__(("127.0.0.1", port), _Handler)
         self.hosts = [f"{name}:{self.server_port}" for name in ("127.0.0.1", "localhost")]
@@ -257,7 +268,7 @@ class _Handler(BaseHTTPRequestHandler):
         told = {
             "Server": self.version_string(),
             "Date": self.date_time_string(),
-            **_GUARDS,
+            **self.server.guards,
             "Content-Type": kind,
             **headers,
             **({"Connection": "close"} if self.close_connection else {}),

@@ -93,6 +93,11 @@ class Steps:
         return sum(1 for _ in itertools.takewhile(lambda step: step.group == source[-1].group, reversed(source)))
 
     @property
+    def done(self) -> list[Step]:
+        """What was done and is not undone, in its order."""
+        return list(self._done)
+
+    @property
     def to_undo(self) -> Step | None:
         """The step that an undo would take back, whoever asks."""
         return self._done[-1] if self._done else None

@@ -33,10 +33,11 @@ _PART_MAX = 8 * _FIRST_PART
 _SAMPLE = 256
 
 
-def window_of(store: Editor, layers: Sequence[str], box: Box) -> list[dict[str, Any]]:
+def window_of(store: Editor, layers: Sequence[str], box: Box, inner: Box | None = None) -> list[dict[str, Any]]:
     """What the layers have in a box: features with their geometries, or how many there are.
 
-    Where there are too many, the layers with the fewest are drawn as long as there is room.
+    Where there are too many, the layers with the fewest are drawn as long as there is room. Of the others it is counted
+    too what they have in a part of the box, which a page sees of it.
     """
     found = {layer: store.query(layer, "intersects", rectangle(box)) for layer in layers}
     room, digits = ELEMENTS_MAX, _DIGITS_MAX
@@ -50,10 +51,14 @@ def window_of(store: Editor, layers: Sequence[str], box: Box) -> list[dict[str, 
         room -= len(hexes)
         digits -= sum(map(len, hexes))
         drawn[layer] = list(map(_feature, found[layer], hexes))
-    return [
-        {"name": layer, "count": len(found[layer]), "features": drawn.get(layer)}
-        for layer in layers
+    answer: list[dict[str, Any]] = [
+        {"name": layer, "count": len(found[layer]), "features": drawn.get(layer)} for layer in layers
     ]
+    if inner is not None:
+        for told in answer:
+            if told["features"] is None:
+                told["inside"] = len(store.query(told["name"], "intersects", rectangle(inner)))
+    return answer
 
 
 def shapes_of(store: Editor, layer: str, features: Sequence[int]) -> list[list[Any]]:

@@ -79,6 +79,37 @@ class Added(AddingCase):
             store.undo()
         self.assertEqual(self.opened(), (0, before))
 
+    def test_keys_that_stand_in_a_column_do_so_of_further_features_too(self):
+        """Those of a GeoPackage that a store can't have, and those of a GeoJSON that are texts."""
+        for first, second, source in ((6_000_000_000, 5, self.gpkg_of), ("abc", 5, self.geojson_of), ("abc", "def", self.geojson_of)):
+            with self.subTest(first=first, second=second):
+                path = source("first", first)
+                self.assertEqual(bring_in(path, self.store, *GRID, "--overwrite")[0], 0)
+                self.more = source("second", second)
+                status, out, err = self.add()
+                self.assertEqual((status, err), (0, ""))
+                name = "fid" if source == self.gpkg_of else "id"
+                self.assertRegex(out, f"identifiers .* are in the column {name}\n")
+                rows = self.opened()[1]["wells"]
+                spelled = [f"{name}='{key}'" if isinstance(first, str) else f"{name}={key}" for key in (first, second)]
+                self.assertEqual([row.split(" ")[-1] for row in rows], spelled)
+                Store(self.store, journal=True, program=PROGRAM).close()
+
+    def gpkg_of(self, name, key):
+        path = self.folder / f"{name}.gpkg"
+        source = Source(path)
+        source.layer("wells", {key: (in_map("POINT (1 1)"), {})}, ogr.wkbPoint)
+        source.close()
+        return path
+
+    def geojson_of(self, name, key):
+        path = self.folder / f"{name}.geojson"
+        crs = {"type": "name", "properties": {"name": "EPSG:25832"}}
+        geometry = {"type": "Point", "coordinates": [500001, 5600001]}
+        feature = {"type": "Feature", "id": key, "properties": {}, "geometry": geometry}
+        path.write_text(json.dumps({"type": "FeatureCollection", "name": "wells", "crs": crs, "features": [feature]}))
+        return path
+
     def test_it_is_exported_once_it_is_saved(self):
         self.brought(wells=[(1, "POINT (2 2)")])
         self.assertEqual(self.add()[0], 0)

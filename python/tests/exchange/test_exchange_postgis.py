@@ -278,6 +278,82 @@ class Others(DatabaseCase):
                 self.assertIn("the name osm of a column that OGR makes: it is osm_2 there", err)
                 self.assertEqual(self.ask("SELECT osm, n, geom FROM w ORDER BY n"), before)
 
+    def test_rows_and_values_that_the_import_has_left_out_stay(self):
+        for first, second, third in ((1, 2, 3), (5_000_000_000, -4, 7)):
+            self.ask("DROP TABLE IF EXISTS w; CREATE TABLE w (osm bigint PRIMARY KEY, n int, t text, x numeric, geom geometry(Point)); "
+                     f"INSERT INTO w VALUES ({first}, 1, 'a', 1e-30, 'POINT(1 2)'), ({second}, 2, 'b', 2, 'POINT(1.5 3)'), "
+                     f"({third}, 3, 'c', NULL, 'POINT(1 4)')")
+            before = self.ask("SELECT * FROM w ORDER BY n")
+            status, out, _ = bring_in(self.target, self.store, *PLAIN[:4], "--overwrite")
+            self.assertEqual(status, 1, out)
+            err = self.refused(self.store, self.target, "--overwrite")
+            self.assertIn(f"the table w has features that its import has left out: {second}. They would be lost: ", err)
+            self.assertEqual(self.ask("SELECT * FROM w ORDER BY n"), before)
+            self.ask(f"DELETE FROM w WHERE osm = {second}")
+            err = self.refused(self.store, self.target, "--overwrite")
+            self.assertIn(f"the table w has a value of x that its import has left out, of {first}. They would be lost: ", err)
+            self.assertEqual(self.ask("SELECT count(x) FROM w"), [(1,)])
+            with Store(self.store, journal=True, program=PROGRAM) as store:
+                [feature] = [each for each in store.show("w") if each.values["n"] == 1]
+                store.set("w", feature.id, "x", Decimal(5))
+            self.written(self.store, self.target, "--overwrite")
+            self.assertEqual(self.ask("SELECT osm, n, x FROM w ORDER BY n"), [(first, 1, 5), (third, 3, None)])
+
+    def test_rows_that_a_policy_hides_are_not_removed(self):
+        with self.asking("postgres") as ask:
+            ask("CREATE ROLE clerk LOGIN")
+        self.addCleanup(lambda: self.ask("DROP OWNED BY clerk; DROP ROLE clerk"))
+        self.ask("CREATE TABLE w (id int PRIMARY KEY, n int, geom geometry(Point)); "
+                 "INSERT INTO w VALUES (1, 1, 'POINT(1 1)'), (2, 2, 'POINT(2 2)'); GRANT ALL ON w TO clerk; "
+                 "GRANT SELECT ON spatial_ref_sys TO clerk; "
+                 "ALTER TABLE w ENABLE ROW LEVEL SECURITY; CREATE POLICY own ON w TO clerk USING (n = 1)")
+        target = f"PG:{self.server.dsn('clerk', 'town')}"
+        status, out, _ = bring_in(target, self.store, *PLAIN[:4])
+        self.assertEqual((status, out), (0, "w: 1 features read, 1 taken\n"))
+        err = self.refused(self.store, target, "--overwrite")
+        self.assertIn("not supported with row-level security", err)
+        self.assertEqual(self.ask("SELECT count(*) FROM w"), [(2,)])
+
+    def test_geometries_with_z_or_m_are_not_replaced(self):
+        for kind, wkt in (("geometry", "POINT Z (1 2 3)"), ("geometry(PointM)", "POINT M (1 2 3)")):
+            self.ask(f"DROP TABLE IF EXISTS w; CREATE TABLE w (id int PRIMARY KEY, geom {kind}); INSERT INTO w VALUES (1, '{wkt}')")
+            self.assertEqual(bring_in(self.target, self.store, *PLAIN[:4], "--drop-zm", "--overwrite")[0], 0)
+            err = self.refused(self.store, self.target, "--overwrite")
+            self.assertIn("the table w has Z or M in 1 geometries, which no store has. They would be lost: ", err)
+            self.assertEqual(self.ask("SELECT ST_CoordDim(geom) FROM w"), [(3,)])
+
+    def test_rows_that_the_store_has_not_are_told_before_they_go(self):
+        self.ask("CREATE TABLE w (id bigint PRIMARY KEY, n int, geom geometry(Point)); "
+                 "INSERT INTO w SELECT i, i, ST_Point(i, 0) FROM generate_series(1, 5) i")
+        self.assertEqual(bring_in(self.target, self.store, *PLAIN[:4])[0], 0)
+        self.assertNotIn("removed", self.written(self.store, self.target, "--overwrite"))
+        with Store(self.store, journal=True, program=PROGRAM) as store:
+            store.delete("w", 3)
+        self.ask("INSERT INTO w VALUES (40, 7, 'POINT(7 7)')")
+        err = self.written(self.store, self.target, "--overwrite")
+        self.assertIn("the table w has 2 rows that the store has not, and they are removed: 3, 40\n", err)
+        self.ask("INSERT INTO w SELECT i, i, ST_Point(i, 0) FROM generate_series(100, 1200) i")
+        err = self.written(self.store, self.target, "--overwrite")
+        self.assertIn("has 1,101 rows that the store has not, and they are removed: 100, 101, ", err)
+        self.assertIn(", 107 and 1,093 more\n", err)
+        self.assertEqual(self.ask("SELECT count(*) FROM w"), [(4,)])
+
+    def test_a_sequence_that_the_table_does_not_own_goes_on_too(self):
+        self.ask("CREATE SEQUENCE numbers; CREATE TABLE w (id int PRIMARY KEY DEFAULT nextval('numbers'), geom geometry(Point)); "
+                 "INSERT INTO w (geom) VALUES ('POINT(1 1)')")
+        self.assertEqual(bring_in(self.target, self.store, *PLAIN[:4])[0], 0)
+        with Store(self.store, journal=True, program=PROGRAM) as store:
+            for _ in range(5):
+                store.add("w", "POINT (2 2)")
+        err = self.written(self.store, self.target, "--overwrite")
+        self.assertNotIn("sequence", err)
+        self.assertEqual(self.ask("INSERT INTO w (geom) VALUES ('POINT(3 3)') RETURNING id"), [(7,)])
+        self.ask("ALTER SEQUENCE numbers MAXVALUE 7")
+        with Store(self.store, journal=True, program=PROGRAM) as store:
+            for _ in range(5):
+                store.add("w", "POINT (2 2)")
+        self.assertIn("the sequence numbers can't be set to 12: the database may give w ", self.written(self.store, self.target, "--overwrite"))
+
     def test_an_export_that_breaks_off_leaves_all_as_it_was(self):
         lines = ["layer add a point", "add a POINT (1 1)", "layer add b point", "column add b n int",
                  "add b POINT (1 1)", "set b 1 n 5"]

@@ -106,6 +106,20 @@ class Tables(SetCase):
                     self.assertEqual(status, 1)
                     self.assertIn(f"{name}: 0 features read, 0 taken\n  a table without geometries: its rows are left out\n", out)
 
+    def test_what_the_import_has_left_out_is_told_before_its_file_is_replaced(self):
+        path = self.folder / "own.gpkg"
+        source = Source(path)
+        columns = [("n", ogr.OFTReal), ("photo", ogr.OFTBinary)]
+        features = {1: ("POINT (500001 5600001)", {"n": 1e-30}), 2: ("POINT (500001.001 5600001)", {}), 3: ("POINT Z (500002 5600001 7)", {})}
+        source.layer("wells", features, ogr.wkbPoint, columns).close()
+        self.assertEqual(bring_in(path, self.store, *GRID, "--overwrite", "--drop-zm")[0], 1)
+        words = "wells is without what its import has left out: 1 features; values of 1 features; all of photo, Z or M. "
+        self.assertNotIn(words, give_back(self.store, self.folder / "new.gpkg")[2])
+        # Also once a session has saved the store.
+        with Store(self.store, journal=True, program=PROGRAM) as store:
+            store.delete("wells", 3)
+        self.assertIn(words, give_back(self.store, path, "--overwrite")[2])
+
     def test_one_that_has_what_an_export_has_left_is_replaced(self):
         store, target = self.made("t.sfs", WELLS), self.folder / "out.gpkg"
         self.assertEqual(give_back(store, target, *PLAIN)[0], 0)

@@ -16,8 +16,8 @@ from support import PROGRAM
 from test_exchange import GRID, HAS_GDAL, KINDS, ExchangeCase, Source, bring_in, give_back
 
 from sfstore import Store, files, sidecar
-from sfstore.exchange import importing, reading, wayback
-from sfstore.sidecar import Crs, Sidecar
+from sfstore.exchange import importing, reading, views, wayback
+from sfstore.sidecar import Crs, LayerOrigin, Sidecar
 
 if HAS_GDAL:
     from osgeo import ogr
@@ -64,6 +64,21 @@ class Formats(ExchangeCase):
                 self.assertIn(f"the reference system {crs} can't be read: ", err)
             with self.assertRaises(TimeoutError):
                 server.accept()
+
+    def test_a_side_car_names_no_more_features_than_an_import(self):
+        with Store(PROGRAM, save=self.store) as store:
+            store.run_all(["layer add w point", "add w POINT (1 2)"])
+        for numbers in ([], [4], [1, 2, 3, 9], [-4, 5_000_000_000], list(range(sidecar.LEFT_MAX))):
+            layer = LayerOrigin("w", "w", "", "", [], numbers, numbers[:1], ["photo"])
+            told = Sidecar(("0", "0", "1"), None, [layer], [files.digest(str(self.store))])
+            sidecar.write(str(self.store), told, told.digests)
+            self.assertEqual(sidecar.read(str(self.store)), told)
+        path = self.store.with_name(self.store.name + ".json")
+        right = path.read_text()
+        for wrong in ("0-100000", "1-4000000000", "1-2 x", "one", "1--"):
+            path.write_text(right.replace("0-99999", wrong))
+            with self.assertRaisesRegex(sidecar.SidecarError, "is no side-car of a store: ValueError"):
+                sidecar.read(str(self.store))
 
     def test_what_can_be_read_once_alone_is_refused(self):
         for name in ("/vsistdin/", "/vsigzip//vsistdin/"):
@@ -416,6 +431,61 @@ class Stored(ExchangeCase):
         self.assertEqual(status, 3)
         self.assertRegex(err, "breaks off: .+|does not open: .+|can't be read: .+")
         self.assertFalse(self.store.exists())
+
+
+class Views(ExchangeCase):
+    """Views of a GeoPackage: what is in them is computed as it is read."""
+
+    ENDLESS = "WITH RECURSIVE t(n) AS (SELECT 1 UNION ALL SELECT n + 1 FROM t)"
+
+    def viewed(self, definition):
+        """A GeoPackage of a layer and a view."""
+        self.source.unlink(missing_ok=True)
+        Source(self.source).layer("wells", {1: (POINT, {"n": 7})}, columns=[("n", ogr.OFTInteger)]).close()
+        with contextlib.closing(sqlite3.connect(self.source)) as base, base:
+            base.execute(f"CREATE VIEW seen AS {definition}")
+            base.execute("INSERT INTO gpkg_contents (table_name, data_type, srs_id) VALUES ('seen', 'features', 25832)")
+            base.execute("INSERT INTO gpkg_geometry_columns VALUES ('seen', 'geom', 'POINT', 25832, 0, 0)")
+
+    def test_one_without_an_end_is_refused(self):
+        for definition in (
+            f"{self.ENDLESS} SELECT t.n AS fid, geom, wells.n AS n FROM t, wells",
+            f"{self.ENDLESS} SELECT max(t.n) AS fid, geom, 1 AS n FROM t, wells",
+            # Its rows are counted at once.
+            f"SELECT fid, geom, ({self.ENDLESS} SELECT max(n) FROM t) AS n FROM wells",
+        ):
+            self.viewed(definition)
+            with mock.patch.object(views, "_SECONDS", 1.0):
+                for words in ([self.source, self.store, *GRID], ["--suggest", self.source]):
+                    status, out, err = bring_in(*words)
+                    self.assertEqual((status, out, self.store.exists()), (3, "", False), err)
+                    self.assertIn("has views, and nothing of them came within 1 seconds: they may have no end.", err)
+
+    def test_one_without_an_end_in_the_place_of_a_table_of_geopackage(self):
+        """Neither an import nor an export in the file's place waits for its metadata."""
+        Source(self.source).layer("wells", {1: (POINT, {"n": 7})}, columns=[("n", ogr.OFTInteger)]).close()
+        with contextlib.closing(sqlite3.connect(self.source)) as base, base:
+            base.execute(
+                "CREATE VIEW gpkg_metadata AS SELECT 1 AS id, '' AS md_scope, '' AS md_standard_uri, '' AS mime_type, '' AS metadata"
+            )
+            base.execute(
+                f"CREATE VIEW gpkg_metadata_reference AS {self.ENDLESS} SELECT 'geopackage' AS reference_scope, '' AS table_name, "
+                "'' AS column_name, 0 AS row_id_value, '' AS timestamp, n AS md_file_id, 0 AS md_parent_id FROM t"
+            )
+        before = self.source.read_bytes()
+        made = self.folder / "t.sfs"
+        with Store(PROGRAM, save=made) as store:
+            store.run_all(["layer add wells point", "add wells POINT (3 4)"])
+        with mock.patch.object(views, "_SECONDS", 2.0):
+            for said in (bring_in(self.source, self.store, *GRID), give_back(made, self.source, "--overwrite", *GRID)):
+                self.assertEqual((said[0], said[1], self.store.exists(), self.source.read_bytes()), (3, "", False, before), said[2])
+                self.assertIn("has views, and nothing of them came within 2 seconds: they may have no end.", said[2])
+
+    def test_one_with_an_end_is_read(self):
+        self.viewed("SELECT fid, geom, n FROM wells")
+        status, out, err = bring_in(self.source, self.store, *GRID)
+        self.assertEqual((status, err), (0, ""), out)
+        self.assertIn("seen: 1 features read, 1 taken\n", out)
 
 
 class Odd(ExchangeCase):

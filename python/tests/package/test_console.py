@@ -234,6 +234,9 @@ class InMapUnits(TestCase):
         said = self.said("add w POINT (500900 5600000)", "undo", far, "n", "show w", "vertex move w 1 0 0 0 520000 5600000", "n", "show w")
         self.assertIn("ok 3\nok\n1 POINT", said)
         self.assertEqual(said.count("1 POINT (500045.00 5600015.00)\n2 POLYGON"), 2)
+        # So is a member of a group, in whose place another one is given.
+        said = self.said("together 1", far, "n", "add w POINT (500900 5600000)", "undo", "together 1", far, "y", "undo")
+        self.assertIn("It is not kept: give this member again, or leave the group by Ctrl-C.\nok 3\nok\nok 3\nok\n", said)
         # Once it is meant, the map is larger, and what lies there is asked about no more.
         self.assertIn("ok 3\nok 4\n", self.said(far, "y", far))
         self.assertIn("ok 5\n", self.said("add w POINT (9000000 0)", in_steps=True))
@@ -314,6 +317,14 @@ class InMapUnits(TestCase):
         said = self.said("together 1", "add w LINESTRING (500000 5600000)")
         self.assertIn("It is member 1, and nothing of the group was done: add w LINESTRING (500000 5600000)", said)
         self.assertIn("has the point (500000.00 5600000.00) alone", said)
+
+    def test_coordinates_are_those_of_the_map_by_a_link_too(self):
+        link = self.folder / "link.sfs"
+        link.symlink_to(self.path)
+        self.path = link
+        said = self.said("add w POINT (500001 5600002)", "show w")
+        self.assertIn("Coordinates are those of the map", said)
+        self.assertIn("POINT (500001.00 5600002.00)", said)
 
     def test_a_grid_of_another_file(self):
         with Store(load=self.path, save=self.path, program=PROGRAM) as store:

@@ -130,7 +130,7 @@ class Lines(unittest.TestCase):
 
     def test_lines_without(self) -> None:
         others = ["", "add", "add w", "vertex move w 1 0 0", "vertex remove w 500000 0 0 2", "set w 1 a 'POINT (500000 5600000)'", "addhex w 0101"]
-        given = {"add", "check", "replace", "distance", "relate", "match", "query"}
+        given = {"add", "check", "replace", "distance", "nearest", "relate", "match", "query"}
         examples = [command.example for command in COMMANDS if command.word not in given and not command.example.startswith("vertex")]
         for line in [*others, *examples]:
             self.assertEqual(CENTIMETRES.line(line), line)
@@ -143,6 +143,7 @@ class Lines(unittest.TestCase):
             ("area w 1", "1 95.5", "1 0.00955"),
             ("length w 1", "1 15000.000", "1 150"),
             ("distance w 1 POINT (1 1)", "7.071 50", "0.07071 0.005"),
+            ("nearest w 2 POINT (1 1)", "7 7.071", "7 0.07071"),
             ("distance w 1 POINT (1 1)", "0.577 1/3", "0.00577 1/30000"),
             ("layers", "w point", "w point"),
             ("find w a 7", "7", "7"),
@@ -194,6 +195,16 @@ class Stores(TestCase):
         with Store(program=PROGRAM, load=self.path) as store:
             self.assertRaisesRegex(SidecarError, "belongs to another file", lambda: store.grid)
 
+    def test_the_grid_of_a_store_to_which_a_link_leads(self) -> None:
+        self.bring_grid()
+        link = self.folder / "elsewhere" / "link.sfs"
+        link.parent.mkdir()
+        link.symlink_to(self.path)
+        for named in ({"load": link}, {"path": link, "journal": True}):
+            with Store(program=PROGRAM, **named) as store:
+                assert store.grid is not None
+                self.assertEqual(store.grid.steps("POINT (500000.01 5600000)"), "POINT (1 0)")
+
     @unittest.skipUnless(find_spec("geopandas"), "geopandas is not here")
     def test_a_frame(self) -> None:
         for expected in ([(4500.0, 1500.0), (15500.0, 10000.0)], [(500045.0, 5600015.0), (500155.0, 5600100.0)]):
@@ -203,6 +214,14 @@ class Stores(TestCase):
             self.assertEqual(list(frame.index), [1, 2])
             self.assertEqual(list(frame["depth"])[0], 12)
             self.bring_grid()
+
+    @unittest.skipUnless(find_spec("geopandas"), "geopandas is not here")
+    def test_a_frame_in_a_system_whose_code_is_unknown(self) -> None:
+        for authority, code in (("TOWN", "1"), ("EPSG", "999999"), ("", "")):
+            crs = Crs(authority, code, 'LOCAL_CS["site",UNIT["metre",1]]')
+            write(str(self.path), Sidecar(("0", "0", "1"), crs, []), [files.digest(str(self.path))])
+            with Store(program=PROGRAM, load=self.path) as store:
+                self.assertEqual(store.to_geodataframe("wells").crs.name, "site")
 
     @unittest.skipUnless(find_spec("geopandas"), "geopandas is not here")
     def test_a_frame_has_each_value(self) -> None:

@@ -126,6 +126,14 @@ class Day(PageCase):
             page.use("#ask [type=submit]")
             page.until(lambda found=found: page.hits() == [f"parcels-{k}" for k in found])
         self.assertTrue(page.last().startswith("query parcels near 180 POLYGON ((180 0, "))
+        self.ask(page, "parcels", "nearest")
+        page.script("document.getElementById('ask-count').value = '2'")
+        page.script("document.getElementById('ask-wkt').value = 'POINT (1 1)'")
+        page.use("#ask [type=submit]")
+        page.until(lambda: page.hits() == ["parcels-1", "parcels-2"])
+        self.assertTrue(page.last().startswith("nearest parcels 2 POINT (1 1)"))
+        page.type("reach parcels FF**1**** 1", "rows 10\n" + "\n".join(map(str, range(1, 11))))
+        page.until(lambda: page.hits() == sorted(f"parcels-{k}" for k in range(1, 11)))
 
     def split(self, page):
         page.choose((450, 100), "parcels 3, a polygon")
@@ -605,6 +613,25 @@ class Places(PageCase):
         page.choose((450, 150), "wells 1, a point")
         self.assertEqual(page.text("#measures"), "")
 
+    def test_in_steps_since_the_side_car_is_of_another_file(self):
+        self.bring_grid()
+        self.make(b"layer add parcels polygon\nadd parcels POLYGON ((180 0, 360 0, 360 300, 180 300, 180 0))\n" * 2)
+        self.serving = self.serve()
+        page = self.page(self.serving, "Ann", known=("parcels-2", (180, 0)), is_there=lambda page: page.drawn())
+        self.assertEqual(page.text("#system"), "grid steps")
+        self.assertEqual(page.text("#refusal h2"), "Coordinates are no longer those of the map.")
+        self.assertIn("town.sfs.json belongs to another file", page.text("#refusal .reason"))
+        self.assertFalse(page.one("#refusal").get_property("hidden"))
+        self.serving.end()
+        self.assertIn("Coordinates are steps of the grid: ", self.serving.errors)
+
+    def test_of_a_link(self):
+        self.bring_grid()
+        link = self.folder / "link.sfs"
+        link.symlink_to(self.path)
+        told = self.serve(path=link).call("/map")
+        self.assertEqual((told["grid"]["step"], told["grid_fault"]), ("0.1", None))
+
     def go(self, page, text):
         field = page.one("#goto-text")
         field.clear()
@@ -616,6 +643,8 @@ class Places(PageCase):
         self.assertEqual(page.text("#system"), "EPSG:25832")
         self.go(page, "500045.0, 5600015")
         self.assertEqual(page.text("#pointer"), "500045.0 5600015.0")
+        # What is said of the window that comes then would take the place of what is said of a wrong place.
+        page.until(lambda: "drawn" in page.text("#status"))
         for wrong, said in (("500045", "Two numbers are a place: x and y."), ("7 5600000000", "7 5600000000 lies outside of the grid.")):
             self.go(page, wrong)
             page.until(lambda: page.text("#status") == said)
@@ -723,7 +752,7 @@ class Reading(TestCase):
     def colours(self):
         """The colours of the light and of the dark page, by their names."""
         text = (FOLDER / "sfstore" / "web" / "static" / "page.css").read_text()
-        light, dark = text.split("@media (prefers-color-scheme: dark)")
+        light, dark = text.split("@media screen and (prefers-color-scheme: dark)")
         return [dict(re.findall(r"--([a-z0-9-]+): #([0-9a-f]{6});", part)) for part in (light, dark)]
 
     def brightness(self, colour):

@@ -3,10 +3,14 @@
 from __future__ import annotations
 
 import http.server
+import os
 import signal
+import subprocess
 import threading
 import time
 import unittest
+from concurrent.futures import ThreadPoolExecutor
+from functools import partial
 
 from test_page import PageCase
 
@@ -170,6 +174,66 @@ class Meanwhile(PageCase):
         self.told(page, "Ann changed parcels 2 meanwhile: look again.")
         page.one("#line-text").send_keys(page.keys.ARROW_UP, page.keys.ENTER)
         page.until(lambda: page.log()[-1] == ("vertex move parcels 2 0 0 1 270 -30", "ok"))
+
+    def test_an_edit_that_waits_for_one_before_has_seen_what_was_there_when_it_was_made(self):
+        page = self.two()
+        page.choose((90, 150), "parcels 1, a polygon")
+        seen = self.ann.version()
+        hold = self.keeper()
+        hold(signal.SIGSTOP)
+        self.addCleanup(hold, signal.SIGCONT)
+        self.retype(page, "number", "77")
+        page.choose((270, 150), "parcels 2, a polygon")
+        self.retype(page, "owner", "Ben's")
+        # It comes behind the first one of Ben's, and is shown before his second one is sent.
+        with ThreadPoolExecutor(1) as thread:
+            answer = thread.submit(self.ann.posted, "set parcels 2 owner 'Ito'", seen)
+            time.sleep(0.3)
+            hold(signal.SIGCONT)
+            self.assertEqual(answer.result()[0], 200)
+        self.told(page, "Ann changed parcels 2 meanwhile: look again.")
+        self.assertIn(("set parcels 1 number 77", "ok"), page.log())
+        self.assertEqual(self.ann.feature("parcels", 2)["values"][1]["value"], "Ito")
+        page.until(lambda: page.one("#value-owner").get_property("value") == "Ito")
+
+    def test_edits_of_ones_own_in_a_row_hold_one_another_up_in_nothing(self):
+        page = self.two()
+        hold = self.keeper()
+        hold(signal.SIGSTOP)
+        self.addCleanup(hold, signal.SIGCONT)
+        for column, value in (("number", "77"), ("owner", "Ito"), ("number", "78")):
+            self.retype(page, column, value)
+        hold(signal.SIGCONT)
+        page.logged("set parcels 2 number 78", "ok")
+        self.assertIn(("set parcels 2 owner 'Ito'", "ok"), page.log())
+
+    def retype(self, page, column, value):
+        """Types another value, and sends it."""
+        page.one(f"#value-{column}").send_keys(page.keys.CONTROL + "a" + page.keys.NULL, value, page.keys.ENTER)
+
+    def keeper(self):
+        """The program that carries edits out: the first one that the server has begun."""
+        told = subprocess.run(["pgrep", "-P", str(self.serving.process.pid)], capture_output=True, text=True, check=True)
+        return partial(os.kill, int(told.stdout.split()[0]))
+
+    def test_what_is_drawn_for_a_layer_that_has_gone_is_put_into_no_other_one(self):
+        page = self.open("Ben")
+        ann = self.serving.log_in("Ann")
+        ann.line("layer add plots polygon")
+        page.until(lambda: "plots" in page.text("#layers"))
+        page.pick("#target", "plots")
+        page.tool("polygon")
+        for point in ((1300, 600), (1380, 600), (1380, 700)):
+            page.click(point)
+        ann.line("layer rename plots fields")
+        page.until(lambda: "fields" in page.text("#layers"))
+        page.send(page.keys.ENTER)
+        page.until(lambda: page.text("#status") == "The layer that was chosen is not there any more: choose one.")
+        self.assertTrue(page.last().startswith("POLYGON (("), page.log())
+        page.pick("#target", "fields")
+        page.type("layer add trees point", "ok")
+        self.assertEqual(page.one("#target").get_property("value"), "fields")
+        self.assertEqual(len(ann.line("show parcels")["rows"]), 200)
 
     def test_a_value_that_is_not_set_is_not_shown(self):
         page = self.two()

@@ -869,7 +869,7 @@ class Cut(TestCase):
     def test_lines_of_a_batch_are_marked_and_are_one_step_without_the_mark(self):
         keeper = self.keeper()
         lines = ["column add p more int", "set p 1 more 7"]
-        keeper.carry_out_all(Batch(1, "page", lines, [None, 1]))
+        keeper.carry_out_all(Batch(1, "page", lines, [None, keeper.steps()[0]]))
         with open(self.folder / "town.sfs.journal", encoding="ascii") as file:
             records = file.read().splitlines()[-2:]
         blanks = {len(record) - len(record.rstrip(" ")) for record in records}

@@ -10,13 +10,17 @@ import sys
 import threading
 import time
 import unittest
+from unittest import mock
 
-from support import PROGRAM
+from support import PROGRAM, TestCase
 from test_web import SLOW, WHOLE, Listening
 from web_support import WebCase
 
+from sfstore import Store
 from sfstore.language import COMMANDS
 from sfstore.web.changes import Change, Changes, Target, feature_of, targets_of
+from sfstore.web.keeper import Asked, Keeper
+from sfstore.web.mirror import Mirror
 
 SQUARE = "POLYGON ((0 0, 100 0, 100 100, 0 100, 0 0))"
 # A line for each command that edits a feature, and one with blanks and figures that the program takes too.
@@ -288,6 +292,31 @@ class Waiting(WebCase):
         self.assertEqual(answers[:4], [(503, {"error": words})] * 4)
         self.assertEqual(ann.line("query w intersects POINT (1 1)")["rows"], ["1"])
         self.assertLess(len(answers), 8)
+
+
+class Watched(TestCase):
+    """What watches the edits of a program that is asked."""
+
+    def test_where_it_fails_the_content_is_read_anew(self):
+        path = str(self.folder / "town.sfs")
+        with Store(PROGRAM, save=path) as store:
+            store.run("layer add wells point")
+        for name in ("before", "after"):
+            keeper = Keeper(path, PROGRAM)
+            watcher = mock.Mock()
+            getattr(watcher, name).side_effect = [MemoryError, None]
+            mirror = Mirror(keeper, PROGRAM, 30.0, watcher)
+            try:
+                mirror.ask(1, lambda store: store.show("wells"))
+                for x in (3, 4):
+                    keeper.carry_out(Asked(1, "page", f"add wells POINT ({x} 5)", None))
+                with self.subTest(name):
+                    content = keeper.ask(lambda store: store.show("wells"))
+                    self.assertEqual(mirror.ask(1, lambda store: store.show("wells")), content)
+                    watcher.forget.assert_called()
+            finally:
+                mirror.close()
+                keeper.close()
 
 
 if __name__ == "__main__":

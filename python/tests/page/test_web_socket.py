@@ -23,11 +23,23 @@ from web_support import WebCase
 
 from sfstore import Store
 from sfstore.web import client, command, socketed
-from sfstore.web.client import CallFailed, Client, ServerGone, start_server
+from sfstore.web.client import AnothersServer, CallFailed, Client, ServerGone, start_server
 from sfstore.web.socketed import Door, SocketTaken
 
 # At how many moments a server is killed: more where the environment variable says so.
 KILLS = int(os.environ.get("KILLS", "12"))
+# Who has no rights of their own.
+NOBODY = 65_534
+# Listens at a path in a server's place, and writes what it is told.
+LISTENING = """
+import socket, sys
+door = socket.socket(socket.AF_UNIX)
+door.bind(sys.argv[1])
+door.listen()
+print("listens", flush=True)
+while True:
+    print(door.accept()[0].recv(1000), flush=True)
+"""
 MADE = b"layer add w point\ncolumn add w n int\nadd w POINT (1 1)\nadd w POINT (2 2)\n"
 
 
@@ -43,7 +55,9 @@ class SocketCase(WebCase):
         self.addCleanup(made.close)
         return made
 
-    def batch(self, client, *lines, seen=2**50):
+    def batch(self, client, *lines, seen=None):
+        """What a batch of somebody brings, who has seen all if nothing else is said."""
+        seen = client.call("map")["version"] if seen is None else seen
         return client.call("batch", page=client.name, lines=list(lines), seen=[seen] * len(lines))
 
     def rows(self, client):
@@ -103,6 +117,23 @@ class Calls(SocketCase):
             self.batch(ann, "set w 1 n 6", seen=seen)
         self.assertEqual((caught.exception.status, str(caught.exception)), (409, "Ben changed w 1 meanwhile: look again."))
         self.assertEqual(self.rows(ann)[0], "1 POINT (1 1) n=5")
+
+    def test_what_was_seen_at_an_earlier_server_was_not_seen_at_this_one(self):
+        ann, ben = self.client(), self.client("Ben")
+        for n in range(9):
+            self.batch(ben, f"set w 2 n {n}")
+        seen = ann.call("feature", layer="w", id=1)["version"]
+        self.serving.end(signal.SIGKILL)
+        self.serving = self.serve()
+        self.batch(self.client("Ben"), "set w 1 n 5")
+        with self.assertRaises(CallFailed) as caught:
+            self.batch(self.client(), "set w 1 n 6", seen=seen)
+        words = "It is not known any more whether w 1 was changed meanwhile: look again."
+        self.assertEqual((caught.exception.status, str(caught.exception)), (409, words))
+        # Nor one that no server has had.
+        with self.assertRaises(CallFailed):
+            self.batch(self.client(), "set w 1 n 6", seen=2**53)
+        self.assertEqual(self.rows(self.client())[0], "1 POINT (1 1) n=5")
 
     def test_calls_that_are_none(self):
         with contextlib.closing(client._connected(str(self.path), 30)) as connection:
@@ -356,6 +387,26 @@ class Ends(SocketCase):
         serving.end()
         self.assertIn("is no socket: programs can't connect", serving.errors)
         self.assertEqual(other.read_text(), "somebody's")
+
+    @unittest.skipUnless(os.geteuid() == 0, "takes another user's place")
+    def test_nothing_is_said_to_another_user_who_listens_there(self):
+        self.folder.chmod(0o777)
+        listener = subprocess.Popen([sys.executable, "-c", LISTENING, f"{self.path}.socket"], user=NOBODY, stdout=subprocess.PIPE)
+        self.addCleanup(listener.communicate)
+        self.addCleanup(listener.kill)
+        self.assertEqual(listener.stdout.readline(), b"listens\n")
+        for begin in (lambda: Client(str(self.path), "Ann"), lambda: start_server(str(self.path), PROGRAM)):
+            with self.assertRaisesRegex(AnothersServer, f"is another user's .number {NOBODY}., who would be told all"):
+                begin()
+        listener.kill()
+        # They come, and leave without a word.
+        self.assertLessEqual(set(listener.stdout.read().split(b"\n")), {b"b''", b""})
+
+    def test_a_server_of_another_user_is_none(self):
+        self.serve()
+        other = mock.Mock(size=client._PEER.size, unpack=lambda data: (1, os.geteuid() + 1, 1))
+        with mock.patch.object(client, "_PEER", other), self.assertRaises(AnothersServer):
+            Client(str(self.path), "Ann")
 
     def test_a_link_in_its_place_is_not_followed(self):
         other = self.folder / "other"

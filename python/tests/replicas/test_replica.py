@@ -261,6 +261,12 @@ class Writing(ReplicaCase):
         self.assertEqual(ben.run("undo"), "ok")
         self.assertEqual(ann.run("undo"), "ok")
 
+    def test_a_login_gets_another_number(self):
+        [ann] = self.town("ann")
+        self.ask("UPDATE sfstore.editors SET number = 200 WHERE login = 'ann'")
+        self.assertEqual(ann.run_all(["add w POINT (3 4)", "undo"]), ["ok 1", "ok"])
+        self.assertEqual(self.ask("SELECT editor FROM sfstore.log ORDER BY at"), [(1,), (200,), (200,)])
+
     def test_each_line_once_however_often_it_is_tried(self):
         [ann] = self.town("ann")
         keys = [str(uuid.uuid4()) for _ in range(3)]
@@ -374,6 +380,19 @@ class Writing(ReplicaCase):
         self.assertEqual(ann.run("show w"), ["1 POINT (1 1)"])
 
 
+# A program that ends at a question by `match`.
+DYING = """\
+    import ctypes, os, subprocess, sys
+    def follow(): ctypes.CDLL(None).prctl(1, 9)  # the program is killed with this one
+    program = subprocess.Popen([{program!r}, *sys.argv[1:]], stdin=subprocess.PIPE, bufsize=0, preexec_fn=follow)
+    for line in sys.stdin.buffer:
+        if line.startswith(b"match"): os._exit(9)
+        program.stdin.write(line)
+    program.stdin.close()
+    sys.exit(program.wait())
+    """
+
+
 class Sessions(ReplicaCase):
     def command(self, *words):
         said = subprocess.run(
@@ -390,6 +409,18 @@ class Sessions(ReplicaCase):
         answers = b"ok\nok 1\nrefused 31 BadCommand\nrows 1\n1 POINT (3 4)\nrefused 31 BadCommand\n"
         answers += b"refused 101 OtherEditor\nrefused 33 LineTooLong\nok\n"
         self.assertEqual((said.stdout, said.stderr, said.returncode), (answers, b"", 0))
+
+    def test_what_stands_is_answered_before_a_line_that_ends_it(self):
+        self.town("ann")[0].close()
+        lines = b"add w POINT (3 4)\nshow w\nmatch w T******** POINT (3 4)\nundo\n"
+        said = self.session("ann", lines, "--program", self.flagged(DYING, False))
+        self.assertEqual((said.stdout, said.returncode), (b"ok 1\nrows 1\n1 POINT (3 4)\n", 5))
+        # A log that an earlier version has made.
+        is_group = "CREATE OR REPLACE FUNCTION sfstore.is_group(line text) RETURNS bool LANGUAGE sql IMMUTABLE AS 'SELECT false'"
+        self.ask(is_group)
+        lines = b"add w POINT (5 6)\nget w 2\ntogether 1\nadd w POINT (7 8)\n"
+        said = self.session("ann", lines)
+        self.assertEqual((said.stdout, said.returncode), (b"ok 2\nrows 1\n2 POINT (5 6)\n", 3))
 
     def test_many_at_a_socket(self):
         process, path = self.listening()
@@ -548,6 +579,21 @@ class Cuts(ReplicaCase):
             self.replica("cleo", begin_from=other)
         with self.assertRaisesRegex(ValueError, "no file of a replica"):
             self.replica("cleo", begin_from=self.folder / "x.sfs")
+
+    def test_a_wrong_file_to_begin_from_takes_the_place_of_none(self):
+        [ann] = self.town("ann")
+        for _ in range(2):
+            self.cut(ann)
+        ann.close()
+        kept = sorted(path.name for path in (self.folder / "ann").glob("*.sfs"))
+        self.assertEqual(len(kept), 2)
+        for at in (1, 9):
+            other = self.folder / f"{at:020}-{'ab' * 32}.sfs"
+            other.write_bytes(b"x")
+            with self.assertRaisesRegex(ReplicaStopped, "is not what all replicas had"):
+                self.replica("ann", begin_from=other)
+        self.assertEqual(sorted(path.name for path in (self.folder / "ann").glob("*.sfs*")), kept)
+        self.assertEqual(self.replica("ann").run("show w"), [])
 
     def test_a_folder_of_another_log(self):
         [ann] = self.town("ann")

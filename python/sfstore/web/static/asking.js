@@ -19,6 +19,7 @@ export class Asking {
     byId("ask-predicate").onchange = () => {
       byId("pattern-label").hidden = byId("ask-predicate").value !== "";
       byId("distance-label").hidden = byId("ask-predicate").value !== "near";
+      byId("count-label").hidden = byId("ask-predicate").value !== "nearest";
     };
     byId("ask-chosen").onclick = () => {
       if (app.selection.feature) byId("ask-wkt").value = app.selection.feature.wkt;
@@ -58,14 +59,15 @@ export class Asking {
   #how() {
     const predicate = byId("ask-predicate").value;
     if (predicate === "near") return ["query", `near ${byId("ask-distance").value.trim()}`];
+    if (predicate === "nearest") return ["nearest", byId("ask-count").value.trim()];
     return predicate ? ["query", predicate] : ["match", byId("ask-pattern").value];
   }
 
-  /** Takes the answer of a line that asked, typed or made here. */
+  /** Takes the answer of a line that asked, typed or made here. A row begins with the identifier of a feature. */
   take(line, answer, isFurther) {
     const layer = line.split(/[ \t]+/)[1];
     if (!isFurther) this.clear();
-    this.hits.set(layer, new Set(answer.rows.map(Number)));
+    this.hits.set(layer, new Set(answer.rows.map((row) => Number(row.split(" ")[0]))));
     this.count += answer.count;
     this.#show();
   }

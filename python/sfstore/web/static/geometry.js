@@ -27,6 +27,40 @@ export function isInBox([left, bottom, right, top], x, y, reach) {
   return x >= left - reach && x <= right + reach && y >= bottom - reach && y <= top + reach;
 }
 
+/** Whether a geometry has a point in a box. */
+export function meetsBox(code, members, own, box) {
+  if (isWithin(box, own)) return true;
+  if (own[0] > box[2] || own[2] < box[0] || own[1] > box[3] || own[3] < box[1]) return false;
+  const lines = members.flat();
+  if (lines.some((line) => hasEdgeIn(line, box))) return true;
+  return isArea(code) && lines.filter((line) => isInside(line, box[0], box[1])).length % 2 === 1;
+}
+
+/** Whether an edge of a line, or its one point, has a point in a box. */
+function hasEdgeIn(line, box) {
+  if (line.length === 2) return isInBox(box, line[0], line[1], 0);
+  for (let at = 2; at < line.length; at += 2) if (crossesBox(line[at - 2], line[at - 1], line[at], line[at + 1], box)) return true;
+  return false;
+}
+
+/** Whether an edge has a point in a box: what is left of it between the sides, one axis after the other. */
+function crossesBox(ax, ay, bx, by, [left, bottom, right, top]) {
+  let [from, to] = [0, 1];
+  for (const [start, end, least, most] of [[ax, bx, left, right], [ay, by, bottom, top]]) {
+    if (start === end && (start < least || start > most)) return false;
+    if (start === end) continue;
+    const [one, other] = [(least - start) / (end - start), (most - start) / (end - start)];
+    from = Math.max(from, Math.min(one, other));
+    to = Math.min(to, Math.max(one, other));
+  }
+  return from <= to;
+}
+
+/** Whether a box lies in another one. */
+export function isWithin([left, bottom, right, top], inner) {
+  return inner[0] >= left && inner[1] >= bottom && inner[2] <= right && inner[3] <= top;
+}
+
 /** The path of a geometry, where `place` tells where a point of the grid is drawn. */
 export function pathOf(code, members, place) {
   let path = "";

@@ -33,9 +33,11 @@ export class Hand {
   /** Offers the layers that take what can be drawn. */
   setLayers(layers) {
     const target = byId("target");
+    const isFirst = !target.options.length;
     const chosen = target.value;
     target.replaceChildren(...layers.map(({ name, kind }) => new Option(`${name} (${kind})`, name)));
-    if (layers.some(({ name }) => name === chosen)) target.value = chosen;
+    // Where the one that was chosen has gone, none is: what is being drawn was meant for that one.
+    if (!isFirst) target.value = chosen;
   }
 
   /** What a drag that begins here is for: a vertex, a box to ask about, or nothing but moving the map. */
@@ -131,8 +133,16 @@ export class Hand {
       return;
     }
     const layer = this.app.map.layer(byId("target").value);
-    if (!layer) return this.app.tell("There is no layer to draw in: type `layer add NAME KIND` at the console.");
+    if (!layer) return this.#missLayer(wktOf(this.tool, points, this.app.place.units));
     this.app.draw(layer.name, wktOf(this.tool, points, this.app.place.units, layer.kind.startsWith("multi")));
+  }
+
+  /** Tells that there is no layer for what was drawn, which stays in the console. */
+  #missLayer(wkt) {
+    const isThere = this.app.map.layers.length > 0;
+    const words = isThere ? "The layer that was chosen is not there any more: choose one." : "There is no layer to draw in: type `layer add NAME KIND` at the console.";
+    this.app.tell(words);
+    this.app.log.add(wkt, words, "refused");
   }
 
   takeBack() {

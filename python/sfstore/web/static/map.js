@@ -1,8 +1,9 @@
 // The map: layers in drawing order, and of each what the window has.
 
 import { counted, drawn } from "./dom.js";
-import { boxOf, GRID_MAX, GRID_MIN, isHit, isInBox, KINDS, nearestOnEdge, onGrid, pathOf } from "./geometry.js";
+import { boxOf, GRID_MAX, GRID_MIN, isHit, isInBox, KINDS, meetsBox, nearestOnEdge, onGrid, pathOf } from "./geometry.js";
 import { call } from "./server.js";
+import { formPath, isAtScale, isForm, putOn, sizeOf, wholeStyle } from "./styles.js";
 
 // How much around the window is asked for, as a part of its sides.
 const MARGIN = 0.25;
@@ -10,18 +11,23 @@ const MARGIN = 0.25;
 const REST_MILLISECONDS = 120;
 // How far, in pixels, paths may lie from the point that they count from: browsers draw with single precision.
 const FAR_PIXELS = 50_000;
+// So many symbols are drawn anew with each step of a zoom; more of them once it rests.
+const FORMS_MAX = 1_000;
 
 export class FeatureMap {
-  constructor(world, overview, view, onShown) {
+  /** `onShown` is called once something else is drawn, `onCounted` with a sentence once the window has something else. */
+  constructor(world, overview, view, { onShown, onCounted }) {
     this.world = world;
     this.overview = overview;
     this.view = view;
     this.onShown = onShown;
+    this.onCounted = onCounted;
     this.layers = [];
     this.origin = null;
     this.seen = null;
     this.chosen = null;
     this.hits = new Map();
+    this.styles = {};
     // More features than this are not drawn one by one, as the server says with each window.
     this.most = Infinity;
   }
@@ -30,11 +36,47 @@ export class FeatureMap {
   setLayers(layers) {
     const before = new Map(this.layers.map((layer) => [layer.name, layer]));
     this.layers = layers.map((layer, place) => {
-      const known = before.get(layer.name) ?? { shown: true, count: 0, features: new Map(), group: drawn("g") };
-      known.group.setAttribute("class", `layer tint-${place % 8}`);
-      return Object.assign(known, layer);
+      const style = wholeStyle(this.styles[layer.name]);
+      const known = before.get(layer.name) ?? { shown: style.isShown, inside: 0, features: new Map(), group: drawn("g"), pointSize: style.size };
+      const tint = `tint-${place % 8}`;
+      known.group.setAttribute("class", `layer ${tint}`);
+      putOn(known.group, style, layer.kind);
+      return Object.assign(known, layer, { style, tint });
     });
-    setChildren(this.world, this.layers.filter((layer) => layer.shown).map((layer) => layer.group));
+    this.#showLayers();
+  }
+
+  /** Takes how layers look, and draws them so. */
+  setStyles(styles) {
+    this.styles = styles;
+    for (const layer of this.layers) {
+      const isShown = wholeStyle(styles[layer.name]).isShown;
+      // Who sees a layer that others turn off or on sees that too.
+      if (isShown !== layer.style.isShown) layer.shown = isShown;
+    }
+    this.setLayers(this.layers);
+    for (const layer of this.layers) this.#drawForms(layer);
+    return this.layers.length ? this.refresh() : undefined;
+  }
+
+  /** Whether a layer is turned on, and is shown at this scale. */
+  isVisible(layer) {
+    return layer.shown && isAtScale(layer.style, this.view.denominator);
+  }
+
+  /** The layers that are seen, the lowest first. */
+  get visibleLayers() {
+    return this.layers.filter((layer) => this.isVisible(layer));
+  }
+
+  /** Has those layers drawn that are seen, and says whether they are others than before. */
+  #showLayers() {
+    const groups = this.visibleLayers.map((layer) => layer.group);
+    const isOther = groups.length !== this.world.children.length || groups.some((group, place) => group !== this.world.children[place]);
+    if (isOther) {
+      this.world.replaceChildren(...groups);
+      this.isStale = true;
+    }
   }
 
   layer(name) {
@@ -49,10 +91,18 @@ export class FeatureMap {
 
   /** Moves what is drawn along with the view, and asks for what is not there yet. */
   follow() {
+    this.#showLayers();
     this.#place();
     this.overview.place();
     clearTimeout(this.rest);
-    this.rest = setTimeout(() => this.layers.length && !this.#hasAll() && this.refresh(), REST_MILLISECONDS);
+    this.rest = setTimeout(() => this.#rest(), REST_MILLISECONDS);
+  }
+
+  /** Asks for what is not there, or counts what is. */
+  #rest() {
+    if (!this.layers.length) return;
+    if (this.#hasAll()) this.#count();
+    else this.refresh();
   }
 
   /** Asks for what the window has, and draws it. Further calls meanwhile make one more round. */
@@ -65,24 +115,27 @@ export class FeatureMap {
   async #fetch() {
     while (this.wanted) {
       this.wanted = false;
+      this.isStale = false;
       const start = performance.now();
       const asked = { box: this.#box(), scale: this.view.scale, view: this.#viewed() };
       this.coming = asked;
       const layers = await this.#window(asked.box).finally(() => (this.coming = null));
       this.#show(layers);
       this.seen = asked;
-      this.onShown(this.#words());
+      this.onShown();
+      this.#count();
       performance.measure("window", { start });
     }
   }
 
   /** What a box has. Layers that are known to have too much there are not asked for. */
   async #window(box) {
-    const shown = this.layers.filter((layer) => layer.shown).map((layer) => layer.name);
-    const crowded = shown.map((name) => ({ name, count: this.overview.least(name, box), features: null, isLeast: true }));
-    const known = crowded.filter(({ count }) => count > this.most);
+    const shown = this.visibleLayers.map((layer) => layer.name);
+    const { window } = this;
+    const crowded = shown.map((name) => ({ name, inside: this.overview.least(name, window), features: null, isLeast: true }));
+    const known = crowded.filter(({ inside }) => inside > this.most);
     const asked = shown.filter((name) => !known.some((layer) => layer.name === name));
-    const answer = await call("window", { box, layers: asked });
+    const answer = await call("window", { box, window, layers: asked });
     this.most = answer.most;
     return [...answer.layers, ...known];
   }
@@ -100,7 +153,7 @@ export class FeatureMap {
     for (const { layer, id } of places) byLayer.set(layer, [...(byLayer.get(layer) ?? []), id]);
     for (const [name, ids] of byLayer) {
       const layer = this.layer(name);
-      if (layer?.shown && !layer.isCounted) await this.#redrawSome(layer, ids);
+      if (layer && this.isVisible(layer) && !layer.isCounted) await this.#redrawSome(layer, ids);
     }
     if (this.layers.some((layer) => layer.isCounted)) this.overview.refresh();
   }
@@ -114,12 +167,13 @@ export class FeatureMap {
       const [l, b, r, t] = this.seen.box;
       if (left <= r && right >= l && bottom <= t && top >= b) this.#putIn(layer, id, code, members);
     }
-    this.onShown(this.#words());
+    this.onShown();
+    this.#count();
   }
 
   #takeOut(layer, id) {
     layer.features.get(id)?.path.remove();
-    if (layer.features.delete(id)) layer.count--;
+    layer.features.delete(id);
   }
 
   /** Puts a feature where it belongs among those of its layer, which are drawn in the order of identifiers. */
@@ -130,13 +184,17 @@ export class FeatureMap {
     layer.group.insertBefore(feature.path, later[0]?.path ?? null);
     for (const other of later) layer.features.delete(other.id);
     for (const each of [feature, ...later]) layer.features.set(each.id, each);
-    layer.count++;
     this.#mark(layer, feature);
   }
 
-  #box() {
+  /** What the window shows, on the grid. */
+  get window() {
+    return this.#box(0);
+  }
+
+  #box(margin = MARGIN) {
     const kept = (value) => Math.min(GRID_MAX, Math.max(GRID_MIN, value));
-    const [left, bottom, right, top] = this.view.box(MARGIN);
+    const [left, bottom, right, top] = this.view.box(margin);
     return [kept(Math.floor(left)), kept(Math.floor(bottom)), kept(Math.ceil(right)), kept(Math.ceil(top))];
   }
 
@@ -147,9 +205,10 @@ export class FeatureMap {
 
   /** Whether what the window has is drawn already, or is about to come. */
   #hasAll() {
+    if (this.isStale) return false;
     if (this.coming) return this.coming.view === this.#viewed();
     if (this.seen?.view === this.#viewed()) return true;
-    if (!this.seen || this.layers.some((layer) => layer.shown && layer.isCounted)) return false;
+    if (!this.seen || this.visibleLayers.some((layer) => layer.isCounted)) return false;
     const [left, bottom, right, top] = this.view.box();
     const near = this.view.scale < this.seen.scale * 3;
     return near && isInBox(this.seen.box, left, bottom, 1) && isInBox(this.seen.box, right, top, 1);
@@ -157,10 +216,10 @@ export class FeatureMap {
 
   #show(layers) {
     const moved = this.#moveOrigin();
-    for (const { name, count, features, isLeast = false } of layers) {
+    for (const { name, inside = 0, features, isLeast = false } of layers) {
       const layer = this.layer(name);
       if (!layer) continue;
-      Object.assign(layer, { count, isLeast, isCounted: features === null });
+      Object.assign(layer, { inside, isLeast, isCounted: features === null });
       this.#showFeatures(layer, features ?? [], moved);
     }
     this.#place();
@@ -169,7 +228,7 @@ export class FeatureMap {
 
   /** Has the overview show the layers that are not drawn feature by feature. */
   #showCounted() {
-    const crowded = this.layers.filter((layer) => layer.shown && layer.isCounted);
+    const crowded = this.visibleLayers.filter((layer) => layer.isCounted);
     this.overview.show(crowded.map((layer) => ({ name: layer.name, colour: () => getComputedStyle(layer.group).color })));
   }
 
@@ -189,8 +248,45 @@ export class FeatureMap {
 
   /** A feature with its path, whose form is not set yet. */
   #feature(layer, id, code, members, path = drawn("path", { id: `${layer.name}-${id}` })) {
-    const d = pathOf(code, members, (x, y) => [x - this.origin[0], this.origin[1] - y]);
+    const place = (x, y) => [x - this.origin[0], this.origin[1] - y];
+    const d = isOfForm(layer, code) ? this.#formPath(layer, members, place) : pathOf(code, members, place);
     return { id, code, members, path, d, box: boxOf(members) };
+  }
+
+  /** The symbols of a feature of points: each as large on the screen as its layer's points are just now. */
+  #formPath(layer, members, place) {
+    const size = layer.pointSize / this.view.scale;
+    return members.flat().map(([x, y]) => formPath(layer.style.symbol, place(x, y), size)).join("");
+  }
+
+  /** Draws the points of a layer anew whose symbols have a form, or have had one. */
+  #drawForms(layer) {
+    for (const feature of layer.features.values()) {
+      if (feature.code !== 1 && feature.code !== 4) continue;
+      const { d } = this.#feature(layer, feature.id, feature.code, feature.members, feature.path);
+      if (d !== feature.d) feature.path.setAttribute("d", (feature.d = d));
+      this.#mark(layer, feature);
+    }
+  }
+
+  /** Has symbols as large on the screen as they were before a zoom. */
+  #keepForms(most) {
+    for (const layer of this.visibleLayers) {
+      if (!isForm(layer.style.symbol) || layer.features.size > most || layer.formScale === this.view.scale) continue;
+      layer.formScale = this.view.scale;
+      this.#drawForms(layer);
+    }
+  }
+
+  /** Has points as large as their count in the window has room for. */
+  #sizePoints() {
+    for (const layer of this.visibleLayers) {
+      const size = sizeOf(layer.style, layer.inside, this.view.width * this.view.height);
+      layer.group.style.setProperty("--size", `${size}px`);
+      if (size === layer.pointSize) continue;
+      layer.pointSize = size;
+      if (isForm(layer.style.symbol)) this.#drawForms(layer);
+    }
   }
 
   /** Has paths count from the middle of the window, where that is far from where they counted from. */
@@ -207,12 +303,13 @@ export class FeatureMap {
     const { scale } = this.view;
     const [left, top] = this.view.toPixels(...this.origin);
     this.world.setAttribute("transform", `matrix(${scale} 0 0 ${scale} ${left} ${top})`);
+    this.#keepForms(FORMS_MAX);
   }
 
   #mark(layer, feature) {
     const isChosen = this.chosen?.layer === layer.name && this.chosen.id === feature.id;
     const isFound = this.hits.get(layer.name)?.has(feature.id);
-    const words = `feature ${KINDS[feature.code]}${isFound ? " hit" : ""}${isChosen ? " chosen" : ""}`;
+    const words = `feature ${KINDS[feature.code]}${isOfForm(layer, feature.code) ? " form" : ""}${isFound ? " hit" : ""}${isChosen ? " chosen" : ""}`;
     if (feature.path.getAttribute("class") !== words) feature.path.setAttribute("class", words);
   }
 
@@ -225,8 +322,8 @@ export class FeatureMap {
 
   /** The features that are drawn, the lowest first. */
   *drawnFeatures() {
-    for (const layer of this.layers) {
-      if (layer.shown) for (const feature of layer.features.values()) yield [layer, feature];
+    for (const layer of this.visibleLayers) {
+      for (const feature of layer.features.values()) yield [layer, feature];
     }
   }
 
@@ -258,16 +355,34 @@ export class FeatureMap {
     return best.point ?? edge.point ?? onGrid(x, y);
   }
 
-  #words() {
-    const shown = this.layers.filter((layer) => layer.shown);
-    const drawnCount = shown.reduce((sum, layer) => sum + layer.features.size, 0);
-    const parts = [`${counted(drawnCount)} features are drawn.`];
-    for (const layer of shown.filter((layer) => layer.isCounted)) {
-      parts.push(`${layer.name} has ${layer.isLeast ? "over " : ""}${counted(layer.count)} here: zoom in to see them.`);
+  /** Counts what the window has of each layer: of those that are drawn here, of the others the server has counted it. */
+  #count() {
+    const box = this.window;
+    for (const layer of this.visibleLayers.filter((each) => !each.isCounted)) {
+      layer.inside = 0;
+      for (const { code, members, box: own } of layer.features.values()) layer.inside += meetsBox(code, members, own, box);
     }
-    return parts.join(" ");
+    this.#sizePoints();
+    this.#keepForms(Infinity);
+    this.onCounted(this.#words());
+  }
+
+  /** How many features the window has, and how many of them are drawn one by one. */
+  #words() {
+    const shown = this.visibleLayers;
+    const crowded = shown.filter((layer) => layer.isCounted);
+    const sum = (layers) => layers.reduce((total, { inside }) => total + inside, 0);
+    const drawnCount = sum(shown) - sum(crowded);
+    const whole = `${countedFeatures(sum(shown), crowded.some(({ isLeast }) => isLeast))} in the window`;
+    if (!crowded.length) return `${whole}, all drawn.`;
+    const parts = crowded.map(({ name, inside, isLeast }) => `${name} has ${isLeast ? "over " : ""}${counted(inside)} here: zoom in to see them.`);
+    return [`${whole}, ${counted(drawnCount)} drawn one by one.`, ...parts].join(" ");
   }
 }
+
+const isOfForm = (layer, code) => (code === 1 || code === 4) && isForm(layer.style.symbol);
+
+const countedFeatures = (count, isLeast) => `${isLeast ? "Over " : ""}${counted(count)} ${count === 1 ? "feature" : "features"}`;
 
 /** Gives an element children, where they are not the same already. */
 function setChildren(parent, children) {

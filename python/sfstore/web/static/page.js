@@ -1,15 +1,24 @@
 // An editor of a store: this puts the parts of the page together.
 
 import { Asking } from "./asking.js";
+import { Background } from "./background.js";
 import { byId, counted, element, sure } from "./dom.js";
+import { boxOf, isWithin } from "./geometry.js";
 import { Hand } from "./hand.js";
+import { HistoryList } from "./history.js";
+import { Labels } from "./labels.js";
+import { LayerEditor } from "./layers.js";
 import { Log } from "./log.js";
 import { Login } from "./login.js";
 import { FeatureMap } from "./map.js";
 import { Overlay } from "./overlay.js";
 import { Overview } from "./overview.js";
 import { Place } from "./place.js";
+import { Sheet } from "./print.js";
 import { Selection } from "./selection.js";
+import { swatch } from "./styles.js";
+import { Tabs } from "./tabs.js";
+import { ValueTable } from "./table.js";
 import { call, CallFailed, listen } from "./server.js";
 import { followPointers, View } from "./view.js";
 
@@ -21,6 +30,10 @@ const OF_FEATURE = /^[ \t]*(?:delete|replace|vertex[ \t]+[a-z]+)[ \t]+([^ \t]+)[
 const CHANGED_MAX = 1_000;
 const ADDITION = /^[ \t]*(?:add|addhex)[ \t]+([^ \t]+)/;
 const PAN_PIXELS = 60;
+// What is smaller on the screen than this is zoomed to.
+const SMALL_PIXELS = 12;
+// How long a message stands before the count takes its place.
+const READ_MILLISECONDS = 4_000;
 const LOST = "The connection is lost. Where sfstore-web was started again, open its new link.";
 const SAVING = "Save for all? The history begins anew: nobody can undo what was done before.";
 
@@ -34,12 +47,24 @@ class App {
     this.isShown = false;
     this.login = new Login();
     this.steps = { undo: null, redo: null };
+    // When something was said that a person has to read.
+    this.told = 0;
     this.view = new View(svg, () => this.#follow());
     this.place = new Place(this);
+    this.background = new Background(byId("background"), this.view);
     this.overlay = new Overlay(byId("overlay"), this.view);
-    this.map = new FeatureMap(byId("world"), new Overview(byId("overview"), this.view), this.view, (words) => this.#shown(words));
+    this.map = new FeatureMap(byId("world"), new Overview(byId("overview"), this.view), this.view, {
+      onShown: () => this.#drawn(),
+      onCounted: (words) => this.#counted(words),
+    });
+    this.labels = new Labels(byId("labels"), this.map, this.view);
     this.selection = new Selection(this);
     this.asking = new Asking(this);
+    this.tabs = new Tabs((name) => this.#turnTo(name));
+    this.table = new ValueTable(this);
+    this.history = new HistoryList(this);
+    this.sheet = new Sheet(this);
+    this.layerEditor = new LayerEditor(this);
     this.hand = new Hand(this);
     this.log = new Log((line, seen) => this.run(line, { seen }), () => this.version);
     followPointers(svg, this.view, this.hand);
@@ -76,10 +101,13 @@ class App {
   }
 
   async #readMap(extent) {
-    const found = await call("map", { extent });
+    const [found, { styles, fault }] = await Promise.all([call("map", { extent }), call("styles", {})]);
+    this.layerEditor.setFault(fault);
     byId("title").textContent = document.title = found.title;
-    this.map.setLayers(found.layers);
+    this.map.styles = styles;
     this.place.setGrid(found.grid);
+    this.background.set(found.background, this.place.units);
+    this.map.setLayers(found.layers);
     const listed = JSON.stringify(found.layers.map(({ name, kind }) => [name, kind]));
     // The same lists stay, so that nobody is disturbed who chooses from one.
     if (listed !== this.listed) {
@@ -88,6 +116,8 @@ class App {
       this.asking.setLayers(found.layers);
     }
     this.listed = listed;
+    this.table.setLayers(found.layers);
+    this.layerEditor.setLayers(found.layers);
     this.#tellSteps(found);
     return found;
   }
@@ -111,7 +141,7 @@ class App {
     if (answer.refused) this.#tellRefused(answer.refused);
     else {
       this.#closeRefusal();
-      if (answer.rows && /^[ \t]*(query|match)[ \t]/.test(line)) this.asking.take(line.trim(), answer, isFurther);
+      if (answer.rows && /^[ \t]*(query|match|nearest|reach)[ \t]/.test(line)) this.asking.take(line.trim(), answer, isFurther);
       else if (answer.answer) await this.#redraw(shown, changedBy(shown, answer.answer));
     }
     return answer;
@@ -133,16 +163,45 @@ class App {
 
   mark() {
     this.map.mark(this.selection.place, this.asking.hits);
+    this.table.mark();
+  }
+
+  /** Moves the map to what is selected, and zooms where that is too large or too small to be seen. */
+  showChosen() {
+    const { feature } = this.selection;
+    if (!feature) return;
+    const [left, bottom, right, top] = boxOf(feature.members);
+    const [wide, high] = [(right - left) * this.view.scale, (top - bottom) * this.view.scale];
+    const isLarge = wide > this.view.width || high > this.view.height;
+    const isSmall = right > left && top > bottom && Math.max(wide, high) < SMALL_PIXELS;
+    if (isLarge || isSmall) this.view.fit([left, bottom, right, top]);
+    else if (!isWithin(this.view.box(), [left, bottom, right, top])) this.view.center((left + right) / 2, (bottom + top) / 2);
+  }
+
+  #turnTo(name) {
+    if (name === "history") this.history.show();
+    if (name === "table") this.table.show(this.table.begin, { around: this.selection.place?.id });
   }
 
   tell(words) {
     byId("status").textContent = words;
+    this.told = words ? performance.now() : 0;
+  }
+
+  /** Says what the window has, once a message has stood for some seconds. */
+  #tellCounted(words) {
+    clearTimeout(this.telling);
+    const left = this.told + READ_MILLISECONDS - performance.now();
+    if (this.told && left > 0) this.telling = setTimeout(() => this.#tellCounted(words), left);
+    else byId("status").textContent = words;
   }
 
   /** Takes what the server tells all pages. */
   async #hear(event) {
     if (event.hello || event.anew) return this.#lookAnew();
+    if (event.styled !== undefined) return this.restyle();
     this.#tellSteps(event);
+    this.history.changed();
     if (event.saved) this.log.add("save", "The history begins anew.", "", event.saved);
     else if (event.number !== this.editor || event.page !== this.page) {
       const moved = event.line === event.step ? "ok" : event.shown_step;
@@ -152,13 +211,28 @@ class App {
     this.version = Math.max(this.version, event.version ?? 0);
   }
 
+  /** Takes how layers look now. */
+  async restyle() {
+    const asked = (this.styling = {});
+    const { styles, fault } = await call("styles", {});
+    // What was asked later is newer.
+    if (asked !== this.styling) return;
+    this.layerEditor.setFault(fault);
+    await this.map.setStyles(styles);
+    this.#restyleList();
+    this.layerEditor.show();
+    this.labels.follow();
+  }
+
   /** Looks at everything, at first at the whole map. */
   async #lookAnew() {
-    const { version, extent } = await this.#readMap(!this.isShown);
+    const { version, extent, grid_fault: fault } = await this.#readMap(!this.isShown);
     if (extent) this.view.fit(extent);
+    if (fault && !this.isShown) this.#showWords("Coordinates are no longer those of the map.", { reason: fault });
     this.isShown = true;
     await this.map.refresh();
     await this.selection.refresh();
+    this.history.changed();
     this.version = Math.max(this.version, version);
   }
 
@@ -172,6 +246,8 @@ class App {
       await this.#readMap(false);
       await this.map.refresh();
     } else if (first === "column") await this.#readMap(false);
+    this.table.changed();
+    this.labels.forget(isOfFeatures ? changed : null);
     await this.selection.refresh();
   }
 
@@ -217,32 +293,63 @@ class App {
     this.overlay.showRefused(null, []);
   }
 
-  #shown(words) {
-    this.tell(words);
+  #drawn() {
+    this.selection.showHandles();
+    this.labels.follow();
+  }
+
+  #counted(words) {
+    this.#tellCounted(words);
+    this.#tellCounts();
+    this.labels.follow();
+    this.table.moved();
+  }
+
+  #tellCounts() {
     for (const note of byId("layers").querySelectorAll("[data-count]")) {
       const layer = this.map.layer(note.dataset.count);
-      note.textContent = layer?.shown ? counted(layer.count) : "";
+      const isVisible = layer && this.map.isVisible(layer);
+      note.textContent = isVisible ? counted(layer.inside) : layer?.shown ? "not at this scale" : "";
+      note.closest("li").classList.toggle("unseen", !isVisible);
     }
-    this.selection.showHandles();
   }
 
   #listLayers() {
     byId("layers").replaceChildren(...this.map.layers.map((layer, place) => this.#layerItem(layer, place)));
+    this.#tellCounts();
+  }
+
+  /** Shows in the list how layers look now. Its parts stay, so that nobody is disturbed who uses one. */
+  #restyleList() {
+    for (const item of byId("layers").children) {
+      const layer = this.map.layer(item.dataset.layer);
+      if (!layer) continue;
+      item.querySelector("input").checked = layer.shown;
+      item.querySelector(".swatch").replaceWith(swatch(layer.style, layer.kind, layer.tint));
+    }
+    this.#tellCounts();
   }
 
   #layerItem({ name, kind, shown }, place) {
     const box = element("input", { type: "checkbox", checked: shown });
     box.onchange = () => this.map.setShown(name, box.checked);
-    const swatch = element("span", { className: `swatch tint-${place % 8}`, ariaHidden: "true" });
-    const count = element("span", { className: "note" });
+    const count = element("span", { className: "note count" });
     count.dataset.count = name;
-    return element("li", {}, element("label", {}, box, swatch, name, element("span", { className: "note" }, kind)), count);
+    const picture = swatch(this.map.layer(name).style, kind, `tint-${place % 8}`);
+    const label = element("label", {}, box, picture, name, element("span", { className: "note" }, kind));
+    const edit = element("button", { type: "button", className: "quiet", ariaLabel: `Edit ${name}`, title: `Style, labels, columns and name of ${name}` }, "⋯");
+    edit.onclick = () => this.layerEditor.open(name);
+    const item = element("li", {}, label, count, edit);
+    item.dataset.layer = name;
+    return item;
   }
 
   #follow() {
     this.map?.follow();
     this.overlay?.place();
     this.place?.follow();
+    this.labels?.follow();
+    this.background?.follow();
   }
 
   #mapKey(event) {

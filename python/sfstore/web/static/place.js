@@ -7,6 +7,9 @@ import { Units } from "./units.js";
 // How wide the scale bar is at most.
 const BAR_PIXELS = 140;
 
+/** A scale for people: three digits of it. */
+export const scaleWords = (denominator) => (denominator < 1 ? denominator.toPrecision(2) : Number(denominator.toPrecision(3)).toLocaleString("en"));
+
 export class Place {
   constructor(app) {
     this.app = app;
@@ -24,6 +27,7 @@ export class Place {
   setGrid(grid) {
     this.units = new Units(grid);
     byId("system").textContent = grid ? (grid.crs ?? "") : "grid steps";
+    this.app.view.stepMetres = this.units.size * (grid?.metres ?? 1);
     this.follow();
   }
 
@@ -69,12 +73,18 @@ export class Place {
     this.app.view.center(...place);
   }
 
-  /** The longest of 1, 2 and 5 of some power of ten that has room. */
   #drawBar() {
-    const most = (BAR_PIXELS / this.app.view.scale) * this.units.size;
-    const power = 10 ** Math.floor(Math.log10(most));
-    const length = [5, 2, 1].map((times) => times * power).find((long) => long <= most);
-    byId("bar").style.width = `${(length / this.units.size) * this.app.view.scale}px`;
-    byId("bar").textContent = length.toLocaleString("en", { maximumSignificantDigits: 1 });
+    byId("scale").textContent = `1:${scaleWords(this.app.view.denominator)}`;
+    const { pixels, words } = barOf(this.app.view.scale, this.units);
+    byId("bar").style.width = `${pixels}px`;
+    byId("bar").textContent = words;
   }
+}
+
+/** How long a scale bar is in pixels, and what it stands for: the longest of 1, 2 and 5 of some power of ten that has room. */
+export function barOf(scale, units) {
+  const most = (BAR_PIXELS / scale) * units.size;
+  const power = 10 ** Math.floor(Math.log10(most));
+  const length = [5, 2, 1].map((times) => times * power).find((long) => long <= most);
+  return { pixels: (length / units.size) * scale, words: length.toLocaleString("en", { maximumSignificantDigits: 1 }) };
 }

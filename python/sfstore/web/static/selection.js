@@ -11,7 +11,8 @@ const HANDLES_MAX = 300;
 const REACH_RADIUS = 12;
 const VERTEX_RADIUS = 6;
 const MIDDLE_RADIUS = 4;
-
+// So many columns without a value are folded.
+const FOLDED_FROM = 8;
 
 export class Selection {
   constructor(app) {
@@ -34,18 +35,19 @@ export class Selection {
   /**
    * Has an edit of a feature carried out, once those before it are answered and drawn.
    *
-   * The server is told what was seen of the feature, and refuses what would meet something else.
+   * The server is told what was seen of the feature when the edit was made, and refuses what would meet something else.
    * Where it matters which vertices there are, nothing is sent once the geometry is another one.
    */
   #edit(line, feature = this.feature, { needsShape = false, asSeen = false } = {}) {
     const words = line(nameOf(feature));
+    const seen = !asSeen && isSame(this.feature, feature) ? this.feature : feature;
     const sent = this.turn.then(async () => {
       if (this.isUnsure) await this.refresh();
       this.isUnsure = false;
       const now = isSame(this.feature, feature) ? this.feature : null;
       if (needsShape && !now) return this.app.miss(words, `${nameOf(feature)} is selected no more.`);
       if (needsShape && now.wkt !== feature.wkt) return this.app.miss(words, missed(now));
-      return this.app.run(words, { seen: (asSeen ? feature : (now ?? feature)).version });
+      return this.app.run(words, { seen: (now && isAlike(now, seen) ? now : seen).version });
     });
     // Whether it was done is not known where the answer is lost: it is looked at before the next one.
     this.turn = sent.catch(() => (this.isUnsure = true));
@@ -107,14 +109,29 @@ export class Selection {
     const { feature } = this;
     byId("chosen").hidden = !feature;
     byId("chosen-title").textContent = feature ? `${nameOf(feature)}, a ${KINDS[feature.code]}` : "Nothing selected";
+    if (!feature) this.shown = "";
     if (!feature) return;
     byId("measures").textContent = [feature.area && `Area ${feature.area}`, feature.length && `Length ${feature.length}`].filter(Boolean).join(", ");
     if (!isSame(before, feature)) byId("wkt").value = feature.wkt;
     const shown = JSON.stringify([feature.layer, feature.id, feature.values.map(({ name, type }) => [name, type])]);
     // The same fields stay, so that nobody is disturbed who types in one of them.
-    if (shown !== this.shown) byId("values").replaceChildren(...feature.values.map((value) => this.#row(value, feature)));
+    if (shown !== this.shown) this.#showRows(feature);
     this.shown = shown;
     feature.values.forEach(fill);
+    byId("empty-count").textContent = emptyWords([...byId("empty-values").rows]);
+  }
+
+  /** Shows a field for each column. Where many have no value, these are folded, until somebody opens them. */
+  #showRows(feature) {
+    const isEmpty = ({ value }) => value === null;
+    const isFolded = feature.values.filter(isEmpty).length >= FOLDED_FROM;
+    const rows = (values) => values.map((value) => this.#row(value, feature));
+    byId("filled-values").replaceChildren(...rows(feature.values.filter((each) => !isFolded || !isEmpty(each))));
+    byId("empty-values").replaceChildren(...rows(feature.values.filter((each) => isFolded && isEmpty(each))));
+    byId("empty").hidden = !isFolded;
+    // Of a feature that has no value at all, as one that was drawn just now, all fields are seen.
+    if (isFolded) byId("empty").open = feature.values.every(isEmpty);
+    byId("values").scrollTop = 0;
   }
 
   /** A row of the table: the name of a column, and a field for its value. */
@@ -263,6 +280,9 @@ const nameOf = ({ layer, id }) => `${layer} ${id}`;
 /** Whether two are the same feature, whatever it looks like. */
 const isSame = (one, other) => one?.layer === other.layer && one.id === other.id;
 
+/** Whether a feature is as it was seen, whichever version of the store it is of. */
+const isAlike = (now, seen) => now.wkt === seen.wkt && JSON.stringify(now.values) === JSON.stringify(seen.values);
+
 /** The text that stands in the field of the geometry, as a line takes it. */
 const typedText = () => byId("wkt").value.replaceAll("\n", " ");
 
@@ -287,6 +307,13 @@ function fill({ name, value }) {
   else show(input, value ?? "");
   input.placeholder = value === null ? NO_VALUE : "";
   input.closest("tr").querySelector("button").disabled = value === null;
+}
+
+/** How many of the fields that are folded have no value: one may have got one meanwhile. */
+function emptyWords(rows) {
+  const filled = rows.filter((row) => !row.querySelector("button").disabled).length;
+  const count = rows.length - filled;
+  return `${count} empty ${count === 1 ? "value" : "values"}${filled ? `, and ${filled} just filled in` : ""}`;
 }
 
 const numbers = ({ part, ring, index }) => `${part} ${ring} ${index}`;

@@ -36,6 +36,11 @@ export class Units {
     return [x, y].map((step, axis) => withPoint(this.origin[axis] + BigInt(step) * this.step, this.digits)).join(" ");
   }
 
+  /** The coordinates of a place in steps, nearly. */
+  near([x, y]) {
+    return [x, y].map((step, axis) => Number(this.origin[axis]) / 10 ** this.digits + step * this.size);
+  }
+
   /** The place of two coordinates as they are typed, in steps, which need not be whole. Nothing where they are none. */
   place(text) {
     const words = text.trim().split(/[\s,;]+/);

@@ -1,6 +1,7 @@
 // Which part of the plane is seen, and the mouse, touch and keys that move it.
 
 import { GRID_MAX, GRID_MIN } from "./geometry.js";
+import { scaleOf } from "./styles.js";
 
 // Pixels for a grid step: from the whole grid in a few pixels to a step as wide as a hand.
 const SCALE_MIN = 1e-5;
@@ -16,16 +17,40 @@ export class View {
     this.x = 0;
     this.y = 0;
     this.scale = 1;
+    /** How many metres a grid step is, as far as that is known. */
+    this.stepMetres = 1;
+    this.isFixed = false;
     this.width = this.height = 1;
     new ResizeObserver(() => this.measure()).observe(svg);
     this.measure();
   }
 
+  /** The scale of the map, as the denominator of a fraction: 500 for 1:500. */
+  get denominator() {
+    return scaleOf(this.scale / this.stepMetres);
+  }
+
   measure() {
+    // A sheet that is printed has the map as it is on the screen, on paper of another size.
+    if (this.isFixed) return;
     const { width, height } = this.svg.getBoundingClientRect();
     this.width = Math.max(1, width);
     this.height = Math.max(1, height);
     this.onChange();
+  }
+
+  /** Has the view a size of its own, which the element shows scaled, until it is released. */
+  fix(width, height) {
+    this.isFixed = true;
+    this.svg.setAttribute("viewBox", `0 0 ${width} ${height}`);
+    [this.width, this.height] = [width, height];
+    this.onChange();
+  }
+
+  release() {
+    this.isFixed = false;
+    this.svg.removeAttribute("viewBox");
+    this.measure();
   }
 
   toPixels(x, y) {

@@ -1,0 +1,37 @@
+"""Forms of features that are open: QGIS fills them once, and what others change meanwhile is not shown in them."""
+
+from __future__ import annotations
+
+import time
+from collections.abc import Iterator
+from typing import Any
+
+from qgis.core import QgsFeature
+from qgis.gui import QgsAttributeForm
+from qgis.PyQt import sip
+from qgis.PyQt.QtWidgets import QApplication
+
+from .fields import IDENTIFIER
+
+__all__ = ["shown_in_forms"]
+
+# How long the forms are known that were found: many features may be edited in one go.
+_KNOWN_SECONDS = 0.2
+
+_found: list[Any] = []
+_found_at = -1.0
+
+
+def shown_in_forms(fid: int, number: int) -> Iterator[QgsFeature]:
+    """A feature of these numbers, QGIS' and the store's, as each open form has it.
+
+    It may be that of another layer. Which one a form is of can't be asked: it may be gone, and QGIS would end.
+    """
+    global _found, _found_at
+    if time.monotonic() > _found_at + _KNOWN_SECONDS:
+        _found = [widget for widget in QApplication.allWidgets() if isinstance(widget, QgsAttributeForm)]
+        _found_at = time.monotonic()
+    for form in _found:
+        shown = form.feature() if not sip.isdeleted(form) and form.isVisible() else QgsFeature()
+        if shown.id() == fid and shown.fields().indexOf(IDENTIFIER) >= 0 and shown.attribute(IDENTIFIER) == number:
+            yield shown
