@@ -12,6 +12,13 @@ use Rattle.sf_query.specs.declared.ask.Ask.TheVariants.{Matching, Named}
 use Rattle.sf_rules.specs.declared.breaks.Break.TheVariants.{Alone, Pair}
 use Rattle.sf_rules.specs.declared.rule.Form.TheVariants.{Each, Never}
 use Rattle.sf_rules.specs.declared.rule.Rule.{Rule}
+use Rattle.sf_rules.specs.declared.rule.Demand.{Demand}
+use Rattle.sf_rules.specs.declared.rule.Demand.TheVariants.{Required, Unique}
+use Rattle.sf_rules.specs.declared.rule.Says.TheVariants.{OfLayers, OfValues}
+use Rattle.sf_features.specs.declared.attr_value.AttrValue.{AttrValue}
+use Rattle.sf_features.specs.declared.attr_value.AttrValue.TheVariants as values
+use Rattle.sf_features.specs.declared.column.Column.{Column}
+use Rattle.sf_features.specs.declared.column_type.ColumnType.TheVariants as types
 use Rattle.sf_rules.specs.Rules.{break_of, first_broken}
 
 abbrev at : ℕ → ℕ → Coordinates
@@ -36,11 +43,11 @@ overlapping = Matching (letters.Filled ∷ letters.Any ∷ letters.Any ∷ lette
 
 -- no two parcels overlap
 abbrev apart : Rule
-apart = record { name = codes "apart"; form = Never; first = codes "parcels"; ask = overlapping; second = codes "parcels" }
+apart = record { name = codes "apart"; says = OfLayers (record { form = Never; first = codes "parcels"; ask = overlapping; second = codes "parcels" }) }
 
 -- each well is in some parcel, or on its boundary
 abbrev reached : Rule
-reached = record { name = codes "reached"; form = Each; first = codes "wells"; ask = Named Intersects; second = codes "parcels" }
+reached = record { name = codes "reached"; says = OfLayers (record { form = Each; first = codes "wells"; ask = Named Intersects; second = codes "parcels" }) }
 
 abbrev two : List (ℕ × FeatureContent)
 two = (1, square 0 10) ∷ (2, square 10 20) ∷ []
@@ -68,3 +75,38 @@ second_of_both = refl
 
 layer_that_is_not_there : break_of ((codes "wells", layer []) ∷ []) reached ≡ None
 layer_that_is_not_there = refl
+
+-- ---- values
+
+abbrev numbers : Column
+numbers = record { number = 3; name = codes "number"; column_type = types.Text }
+
+abbrev parcel : List (ℕ × AttrValue) → FeatureContent
+parcel values = record { geometry = Point (at 0 0); values = values }
+
+abbrev register : List (ℕ × FeatureContent) → Content
+register features = (codes "parcels", record { kind = Any; next_id = 9; next_column = 4; columns = numbers ∷ []; features = features }) ∷ []
+
+abbrev numbered : Demand → Rule
+numbered demand = record { name = codes "numbered"; says = OfValues (record { demand = demand; layer = codes "parcels"; column = codes "number" }) }
+
+abbrev some : List (ℕ × FeatureContent)
+some = (1, parcel ((3, values.Text (codes "17/4")) ∷ [])) ∷ (2, parcel []) ∷ (5, parcel ((3, values.Text (codes "17/5")) ∷ [])) ∷ (7, parcel []) ∷ []
+
+abbrev twice : List (ℕ × FeatureContent)
+twice = (1, parcel ((3, values.Text (codes "17/4")) ∷ [])) ∷ (2, parcel []) ∷ (5, parcel ((3, values.Text (codes "17/4")) ∷ [])) ∷ []
+
+no_value_is_no_conflict : break_of (register some) (numbered Unique) ≡ None
+no_value_is_no_conflict = refl
+
+one_value_twice : break_of (register twice) (numbered Unique) ≡ Some (Pair 1 5)
+one_value_twice = refl
+
+without_a_value : break_of (register some) (numbered Required) ≡ Some (Alone 2)
+without_a_value = refl
+
+another_column_says_nothing : break_of (register ((1, parcel ((2, values.Int (pos 7)) ∷ [])) ∷ (2, parcel ((2, values.Int (pos 7)) ∷ [])) ∷ [])) (numbered Unique) ≡ None
+another_column_says_nothing = refl
+
+column_that_is_not_there : break_of ((codes "parcels", layer twice) ∷ []) (numbered Unique) ≡ None
+column_that_is_not_there = refl

@@ -1,13 +1,17 @@
 -- What breaks a rule as it is computed is what breaks it over all points of the plane.
-use Rattle.std.proofs.Common.{◌≡◌, ◌∙◌, ◌↔◌, ◌⊎◌, inl, inr, ℕ, suc, ◌+◌, slice_get, Bool, true, false, not, List, [], ◌∷◌, map, filter, IsSome, IsTrue, Option, None, Some, is_some, refl, ap, sym, subst, arith}
+use Rattle.std.proofs.Common.{◌≡◌, ◌<◌, ◌∙◌, ◌↔◌, ◌⊎◌, inl, inr, ℕ, suc, ◌+◌, nat_lt, slice_get, Bool, true, false, not, ◌&&◌, List, [], ◌∷◌, map, filter, IsSome, IsTrue, Option, None, Some, is_some, refl, ap, sym, subst, arith}
 use Rattle.std.specs.List.{AllByRecursion, Contains, list_any}
 use Rattle.std.specs.List.Sorted.{IsStrictlySortedBy}
 use Rattle.std.specs.Map.{keys_of}
+use Rattle.std.specs.Option.{option_map_or}
 use Rattle.std.specs.Ordering.{nat_cmp}
+use Rattle.std.proofs.lemmas.Bool.Decides.{nat_tests}
 use Rattle.std.proofs.lemmas.List.Elements.{All-contains, All-from_recursion}
 use Rattle.sf_query.specs.declared.ask.Ask.{Ask}
-use Rattle.sf_layers.specs.Content.{Content, LayerContent, feature_of, layer_of}
-use Rattle.sf_features.specs.Features.{FeatureContent}
+use Rattle.sf_layers.specs.Content.{Content, LayerContent, column_named, feature_of, layer_of}
+use Rattle.sf_features.specs.declared.attr_value.AttrValue.{AttrValue}
+use Rattle.sf_features.specs.declared.column.Column.{Column}
+use Rattle.sf_features.specs.Features.{FeatureContent, value_in}
 use Rattle.sf_layers.specs.WellFormed.{IsWellFormed}
 use Rattle.sf_joins.specs.Joins.{is_pair, pairs_found}
 use Rattle.sf_joins.specs.Joins.{IsJoined}
@@ -18,15 +22,22 @@ use Rattle.sf_rules.specs.declared.breaks.Broken.{Broken}
 use Rattle.sf_rules.specs.declared.rule.Form.{Form}
 use Rattle.sf_rules.specs.declared.rule.Form.TheVariants.{Each, Never}
 use Rattle.sf_rules.specs.declared.rule.Rule.{Rule}
+use Rattle.sf_rules.specs.declared.rule.LayerRule.{LayerRule}
+use Rattle.sf_rules.specs.declared.rule.ValueRule.{ValueRule}
+use Rattle.sf_rules.specs.declared.rule.Says.{Says}
+use Rattle.sf_rules.specs.declared.rule.Says.TheVariants.{OfLayers, OfValues}
+use Rattle.sf_rules.specs.declared.rule.Demand.{Demand}
+use Rattle.sf_rules.specs.declared.rule.Demand.TheVariants.{Required, Unique}
 use Rattle.sf_rules.specs.Breaks.{is_before}
-use Rattle.sf_rules.specs.Holds.{AllHold, BreaksAreOverThePlane, HasLayers, Holds, HoldsBetween, HoldsBy, IsBreak, IsBrokenBy, ReportedRulesAreBroken, RulesAreOverThePlane}
-use Rattle.sf_rules.specs.Rules.{alone_break, break_by, break_of, breaks_between, broken_from, broken_or, first_of, lacks_partner, of_one, pair_break}
+use Rattle.sf_rules.specs.Holds.{AllHold, Breaks, BreaksAreOverThePlane, HasColumn, HasNamed, HasSaid, HasValue, Holds, HoldsBetween, HoldsBy, HoldsInColumn, HoldsInLayer, HoldsOnValues, HoldsSaid, IsBreak, IsBrokenBy, IsValueBreak, ReportedRulesAreBroken, RulesAreOverThePlane, ValueBreaksAreThese}
+use Rattle.sf_rules.specs.Rules.{has_value, alone_break, break_by, break_in, break_of, break_on, break_said, breaks_between, breaks_in, broken_from, broken_or, doubles_found, first_of, is_double, lacks_partner, lacks_value, of_one, pair_break}
 use Rattle.sf_query.proofs.FilterLaws.{rising-filter}
-use Rattle.sf_joins.proofs.PairLaws.{contains-cons, contains-here, contains-map, flat-rises, map-contains, row-begins, row-rises}
+use Rattle.sf_joins.proofs.PairLaws.{contains-cons, contains-filter, contains-here, contains-map, filter-contains, flat-rises, map-contains, row-begins, row-rises}
 use Rattle.sf_query.proofs.QueryLaws.{layer-fits}
 use Rattle.sf_rules.proofs.LeastLaws.{BeginsWithLeast, before-itself, before-trans}
-use Rattle.sf_rules.proofs.EntryLaws.{alone-found, alone-of, alone_of, any-found, any-of, pair-found, pair-of}
+use Rattle.sf_rules.proofs.EntryLaws.{ArePair, alone-found, alone-of, alone_of, any-found, any-of, member, pair-found, pair-of, there}
 use Rattle.sf_rules.proofs.ChangeLaws.{alone-begin, pairs-begin}
+use Rattle.sf_rules.proofs.ColumnLaws.{shared, sharing}
 
 none-in : {X : Type 0} (x : X) → Contains [] x → ⊥
 none-in x c = absurd (omega (arith, c.1))
@@ -173,10 +184,165 @@ breaks_are_over_the_plane Each one first second ask rising others = record {
   none = (each-none one first second ask rising others, each-holds one first second ask rising others);
 }
 
+-- ---- values
+
+module _ (number : ℕ) (layer : LayerContent) (rising : IsStrictlySortedBy nat_cmp (keys_of layer.features)) where
+  below : (i j : ℕ) → nat_lt i j ≡ true → i < j
+  below i j less = grind (arith, nat_tests)
+
+  less-of : (i j : ℕ) → i < j → nat_lt i j ≡ true
+  less-of i j h = grind (arith, nat_tests)
+
+  and_true : (a b : Bool) → a && b ≡ true → (a ≡ true) × (b ≡ true)
+  and_true true true h = (refl, refl)
+  and_true true false h = cc
+  and_true false b h = cc
+
+  and_of : (a b : Bool) → a ≡ true → b ≡ true → a && b ≡ true
+  and_of true b h k = k
+  and_of false b h k = cc
+
+  of-pair : (i j : ℕ) → ArePair (is_double number) layer.features layer.features i j → IsValueBreak Unique number layer (Pair i j)
+  of-pair i j p =
+      let both = and_true (nat_lt i j) (option_map_or (λ value. has_value number value p.b) (value_in number p.a) false) p.is in
+      let share = shared number p.a p.b both.1 in
+      (below i j both.0, (share.value, (p.a, p.first, share.first), (p.b, p.second, share.second)))
+
+  to-pair : (i j : ℕ) → IsValueBreak Unique number layer (Pair i j) → ArePair (is_double number) layer.features layer.features i j
+  to-pair i j is = record {
+    a = is.1.1.0;
+    b = is.1.2.0;
+    first = is.1.1.1;
+    second = is.1.2.1;
+    is = and_of (nat_lt i j) (option_map_or (λ value. has_value number value is.1.2.0) (value_in number is.1.1.0) false) (less-of i j is.0)
+        (sharing number is.1.1.0 is.1.2.0 (record { value = is.1.0; first = is.1.1.2; second = is.1.2.2 }));
+  }
+
+  unique-to : (x : Break) → Contains (breaks_in Unique number layer) x → IsValueBreak Unique number layer x
+  unique-to x c =
+      let p = map-contains pair_break (doubles_found number layer) x c in
+      subst (IsValueBreak Unique number layer) p.2 (of-pair p.0.0 p.0.1 (pair-found (is_double number) layer.features layer.features p.0.0 p.0.1 rising rising p.1))
+
+  unique-from : (x : Break) → IsValueBreak Unique number layer x → Contains (breaks_in Unique number layer) x
+  unique-from (Pair i j) is =
+      let p : ℕ × ℕ = (i, j) in
+      contains-map pair_break (doubles_found number layer) p (pair-of (is_double number) layer.features layer.features i j (to-pair i j is))
+  unique-from (Alone i) is = absurd is
+
+  -- two features with one value, in whatever order, are a break
+  never-two : first_of (breaks_in Unique number layer) ≡ None → (i j : ℕ) (value : AttrValue) → HasValue number layer i value → HasValue number layer j value → i < j → ⊥
+  never-two h i j value of_i of_j less =
+      none-in (Pair i j) (subst (λ bs. Contains bs (Pair i j)) (first-none (breaks_in Unique number layer) h) (unique-from (Pair i j) (less, (value, of_i, of_j))))
+
+  unique-none : first_of (breaks_in Unique number layer) ≡ None → HoldsOnValues Unique number layer
+  unique-none h i j value of_i of_j = by (nat_lt i j) (nat_lt j i) refl refl
+    where
+      same : nat_lt i j ≡ false → nat_lt j i ≡ false → i ≡ j
+      same is js = grind (arith, nat_tests)
+
+      by : (s t : Bool) → nat_lt i j ≡ s → nat_lt j i ≡ t → i ≡ j
+      by true t is js = absurd (never-two h i j value of_i of_j (below i j is))
+      by false true is js = absurd (never-two h j i value of_j of_i (below j i js))
+      by false false is js = same is js
+
+  unique-holds : HoldsOnValues Unique number layer → first_of (breaks_in Unique number layer) ≡ None
+  unique-holds holds = by (breaks_in Unique number layer) unique-to
+    where
+      not-less : (i j : ℕ) → i ≡ j → i < j → ⊥
+      not-less i j h less = absurd (omega (arith, h, less))
+
+      fails : (x : Break) → IsValueBreak Unique number layer x → ⊥
+      fails (Pair i j) is = not-less i j (holds i j is.1.0 is.1.1 is.1.2) is.0
+      fails (Alone i) is = is
+
+      by : (xs : List Break) → ((x : Break) → Contains xs x → IsValueBreak Unique number layer x) → first_of xs ≡ None
+      by [] each = refl
+      by (x ∷ xs) each = absurd (fails x (each x (contains-here x xs)))
+
+  unique-begins : BeginsWithLeast (breaks_in Unique number layer)
+  unique-begins =
+      pairs-begin (doubles_found number layer)
+      (flat-rises (λ (a : ℕ × FeatureContent). map (λ (b : ℕ × FeatureContent). (a.0, b.0)) (filter (is_double number a) layer.features)) (λ a. row-begins a.0 (filter (is_double number a) layer.features))
+      (λ a. row-rises a.0 (filter (is_double number a) layer.features) (rising-filter (is_double number a) layer.features rising)) layer.features rising)
+
+  -- a feature without a value
+  none-value : (i : ℕ) (a : FeatureContent) → feature_of layer i ≡ Some a → value_in number a ≡ None → (value : AttrValue) → HasValue number layer i value → ⊥
+  none-value i a stands none value has =
+      let same : a ≡ has.0 = some-is a has.0 (sym stands ∙ has.1) in
+      let wrong : None ≡ Some value = sym none ∙ ap (value_in number) same ∙ has.2 in cc
+
+  required-to : (x : Break) → Contains (breaks_in Required number layer) x → IsValueBreak Required number layer x
+  required-to x c =
+      let i = map-contains alone_break (keys_of (filter (lacks_value number) layer.features)) x c in
+      let e = map-contains (λ (e : ℕ × FeatureContent). e.0) (filter (lacks_value number) layer.features) i.0 i.1 in
+      let kept = filter-contains (lacks_value number) layer.features e.0 e.1 in
+      let stands = there layer.features e.0 rising kept.0 in
+      subst (IsValueBreak Required number layer) (ap alone_break e.2 ∙ i.2)
+      (ap is_some stands, none-value e.0.0 e.0.1 stands (no-value (value_in number e.0.1) kept.1))
+    where
+      no-value : (o : Option AttrValue) → not (is_some o) ≡ true → o ≡ None
+      no-value None h = refl
+      no-value (Some value) h = cc
+
+  lacking-in : (i : ℕ) (a : FeatureContent) → feature_of layer i ≡ Some a → value_in number a ≡ None → Contains (breaks_in Required number layer) (Alone i)
+  lacking-in i a stands none =
+      contains-map alone_break (keys_of (filter (lacks_value number) layer.features)) i
+      (contains-map (λ (e : ℕ × FeatureContent). e.0) (filter (lacks_value number) layer.features) (i, a)
+      (contains-filter (lacks_value number) layer.features (i, a) (member layer.features i a stands) (ap (λ (o : Option AttrValue). not (is_some o)) none)))
+
+  required-from : (x : Break) → IsValueBreak Required number layer x → Contains (breaks_in Required number layer) x
+  required-from (Pair i j) is = absurd is
+  required-from (Alone i) is = by (feature_of layer i) refl is.0
+    where
+      at : (a : FeatureContent) → feature_of layer i ≡ Some a → (o : Option AttrValue) → value_in number a ≡ o → Contains (breaks_in Required number layer) (Alone i)
+      at a stands None v = lacking-in i a stands v
+      at a stands (Some value) v = absurd (is.1 value (a, stands, v))
+
+      by : (o : Option FeatureContent) → feature_of layer i ≡ o → IsSome o → Contains (breaks_in Required number layer) (Alone i)
+      by None stands some = cc
+      by (Some a) stands some = at a stands (value_in number a) refl
+
+  required-none : first_of (breaks_in Required number layer) ≡ None → HoldsOnValues Required number layer
+  required-none h i some = by (feature_of layer i) refl some
+    where
+      at : (a : FeatureContent) → feature_of layer i ≡ Some a → (o : Option AttrValue) → value_in number a ≡ o → (value : AttrValue) × HasValue number layer i value
+      at a stands None v = absurd (none-in (Alone i) (subst (λ bs. Contains bs (Alone i)) (first-none (breaks_in Required number layer) h) (lacking-in i a stands v)))
+      at a stands (Some value) v = (value, (a, stands, v))
+
+      by : (o : Option FeatureContent) → feature_of layer i ≡ o → IsSome o → (value : AttrValue) × HasValue number layer i value
+      by None stands given = cc
+      by (Some a) stands given = at a stands (value_in number a) refl
+
+  required-holds : HoldsOnValues Required number layer → first_of (breaks_in Required number layer) ≡ None
+  required-holds holds = by (breaks_in Required number layer) required-to
+    where
+      fails : (x : Break) → IsValueBreak Required number layer x → ⊥
+      fails (Pair i j) is = is
+      fails (Alone i) is = let v = holds i is.0 in is.1 v.0 v.1
+
+      by : (xs : List Break) → ((x : Break) → Contains xs x → IsValueBreak Required number layer x) → first_of xs ≡ None
+      by [] each = refl
+      by (x ∷ xs) each = absurd (fails x (each x (contains-here x xs)))
+
+  required-begins : BeginsWithLeast (breaks_in Required number layer)
+  required-begins = alone-begin (keys_of (filter (lacks_value number) layer.features)) (rising-filter (lacks_value number) layer.features rising)
+
+pub value_breaks_are_these : ValueBreaksAreThese
+value_breaks_are_these Unique number layer rising = record {
+  just = λ x. (unique-to number layer rising x, unique-from number layer rising x);
+  least = first-least (breaks_in Unique number layer) (unique-begins number layer rising);
+  none = (unique-none number layer rising, unique-holds number layer rising);
+}
+value_breaks_are_these Required number layer rising = record {
+  just = λ x. (required-to number layer rising x, required-from number layer rising x);
+  least = first-least (breaks_in Required number layer) (required-begins number layer rising);
+  none = (required-none number layer rising, required-holds number layer rising);
+}
+
 -- ---- several rules
 
-pub rule-over-the-plane : (content : Content) (rule : Rule) → IsWellFormed content → HasLayers content rule → (break_of content rule ≡ None) ↔ Holds content rule
-rule-over-the-plane content rule fine there = by (layer_of content rule.first) (layer_of content rule.second) refl refl there.0 there.1
+layers-over-the-plane : (content : Content) (rule : LayerRule) → IsWellFormed content → HasSaid content (OfLayers rule) → (break_said content (OfLayers rule) ≡ None) ↔ HoldsSaid content (OfLayers rule)
+layers-over-the-plane content rule fine stands = by (layer_of content rule.first) (layer_of content rule.second) refl refl stands.0 stands.1
   where
     by : (o p : Option LayerContent) → layer_of content rule.first ≡ o → layer_of content rule.second ≡ p → IsTrue (is_some o) → IsTrue (is_some p) → (break_by rule o p ≡ None) ↔ HoldsBy rule o p
     by None p is js h k = cc
@@ -184,7 +350,25 @@ rule-over-the-plane content rule fine there = by (layer_of content rule.first) (
     by (Some first) (Some second) is js h k =
         (breaks_are_over_the_plane rule.form (of_one rule) first second rule.ask (layer-fits content rule.first first fine is).rising (layer-fits content rule.second second fine js).rising).none
 
-rules-from : (content : Content) (rules : List Rule) (place : ℕ) → IsWellFormed content → AllByRecursion (HasLayers content) rules → (broken_from place content rules ≡ None) ↔ AllHold content rules
+values-hold : (content : Content) (rule : ValueRule) → IsWellFormed content → HasSaid content (OfValues rule) → (break_said content (OfValues rule) ≡ None) ↔ HoldsSaid content (OfValues rule)
+values-hold content rule fine stands = by (layer_of content rule.layer) refl stands
+  where
+    at : (layer : LayerContent) → layer_of content rule.layer ≡ Some layer → (c : Option Column) → IsTrue (is_some c) → (break_in rule.demand layer c ≡ None) ↔ HoldsInColumn rule.demand layer c
+    at layer is None h = cc
+    at layer is (Some column) h = (value_breaks_are_these rule.demand column.number layer (layer-fits content rule.layer layer fine is).rising).none
+
+    by : (o : Option LayerContent) → layer_of content rule.layer ≡ o → HasColumn rule.column o → (break_on rule o ≡ None) ↔ HoldsInLayer rule o
+    by None is h = absurd h
+    by (Some layer) is h = at layer is (column_named layer rule.column) h
+
+said-over-the-plane : (content : Content) (says : Says) → IsWellFormed content → HasSaid content says → (break_said content says ≡ None) ↔ HoldsSaid content says
+said-over-the-plane content (OfLayers rule) fine stands = layers-over-the-plane content rule fine stands
+said-over-the-plane content (OfValues rule) fine stands = values-hold content rule fine stands
+
+pub rule-over-the-plane : (content : Content) (rule : Rule) → IsWellFormed content → HasNamed content rule → (break_of content rule ≡ None) ↔ Holds content rule
+rule-over-the-plane content rule fine stands = said-over-the-plane content rule.says fine stands
+
+rules-from : (content : Content) (rules : List Rule) (place : ℕ) → IsWellFormed content → AllByRecursion (HasNamed content) rules → (broken_from place content rules ≡ None) ↔ AllHold content rules
 rules-from content [] place fine there = (λ h. tt, λ h. refl)
 rules-from content (rule ∷ rules) place fine there = by (rule-over-the-plane content rule fine there.0) (rules-from content rules (place + 1) fine there.1)
   where
@@ -247,29 +431,60 @@ first-in : (breaks : List Break) (x : Break) → first_of breaks ≡ Some x → 
 first-in [] x h = cc
 first-in (y ∷ ys) x h = subst (Contains (y ∷ ys)) (some-is y x h) (contains-here y ys)
 
--- a rule that stands at a place and is broken
-pub broken-at : (content : Content) (rules : List Rule) (broken : Broken) (rule : Rule) → IsWellFormed content → slice_get rules broken.place ≡ Some rule → break_of content rule ≡ Some broken.least
-    → IsBrokenBy content rules broken
-broken-at content rules broken rule fine stands least = at (layer_of content rule.first) refl (layer_of content rule.second) refl least
+-- what breaks a rule on values is none where the rule holds
+value-break-fails : (demand : Demand) (number : ℕ) (layer : LayerContent) (x : Break) → IsValueBreak demand number layer x → HoldsOnValues demand number layer → ⊥
+value-break-fails Unique number layer (Pair i j) is holds = not-less i j (holds i j is.1.0 is.1.1 is.1.2) is.0
   where
-    at : (o : Option LayerContent) → layer_of content rule.first ≡ o → (p : Option LayerContent) → layer_of content rule.second ≡ p → break_by rule o p ≡ Some broken.least → IsBrokenBy content rules broken
+    not-less : (m n : ℕ) → m ≡ n → m < n → ⊥
+    not-less m n h less = absurd (omega (arith, h, less))
+value-break-fails Unique number layer (Alone i) is holds = is
+value-break-fails Required number layer (Pair i j) is holds = is
+value-break-fails Required number layer (Alone i) is holds = let v = holds i is.0 in is.1 v.0 v.1
+
+-- what is found breaks what a rule says, which then does not hold
+layers-break : (content : Content) (rule : LayerRule) (x : Break) → IsWellFormed content → break_said content (OfLayers rule) ≡ Some x → Breaks content (OfLayers rule) x × (HoldsSaid content (OfLayers rule) → ⊥)
+layers-break content rule x fine least = at (layer_of content rule.first) refl (layer_of content rule.second) refl least
+  where
+    at : (o : Option LayerContent) → layer_of content rule.first ≡ o → (p : Option LayerContent) → layer_of content rule.second ≡ p → break_by rule o p ≡ Some x
+        → Breaks content (OfLayers rule) x × (HoldsSaid content (OfLayers rule) → ⊥)
     at None is p js g = cc
     at (Some first) is None js g = cc
     at (Some first) is (Some second) js g =
-        let found : IsBreak rule.form (of_one rule) first rule.ask second broken.least =
-        ((breaks_are_over_the_plane rule.form (of_one rule) first second rule.ask (layer-fits content rule.first first fine is).rising (layer-fits content rule.second second fine js).rising).just broken.least).0
-        (first-in (breaks_between rule.form (of_one rule) first rule.ask second) broken.least g) in
-        record {
-          rule = rule;
-          first = first;
-          second = second;
-          stands = stands;
-          first_there = is;
-          second_there = js;
-          breaks = found;
-          fails = λ holds. break-fails rule.form (of_one rule) first second rule.ask broken.least found
-              (subst (λ o. HoldsBy rule (Some first) o) js (subst (λ o. HoldsBy rule o (layer_of content rule.second)) is holds));
-        }
+        let found : IsBreak rule.form (of_one rule) first rule.ask second x =
+        ((breaks_are_over_the_plane rule.form (of_one rule) first second rule.ask (layer-fits content rule.first first fine is).rising (layer-fits content rule.second second fine js).rising).just x).0
+        (first-in (breaks_between rule.form (of_one rule) first rule.ask second) x g) in (
+          (first, second, is, js, found),
+          λ holds. break-fails rule.form (of_one rule) first second rule.ask x found
+              (subst (λ o. HoldsBy rule (Some first) o) js (subst (λ o. HoldsBy rule o (layer_of content rule.second)) is holds)),
+        )
+
+values-break : (content : Content) (rule : ValueRule) (x : Break) → IsWellFormed content → break_said content (OfValues rule) ≡ Some x → Breaks content (OfValues rule) x × (HoldsSaid content (OfValues rule) → ⊥)
+values-break content rule x fine least = at (layer_of content rule.layer) refl least
+  where
+    on : (layer : LayerContent) → layer_of content rule.layer ≡ Some layer → (c : Option Column) → column_named layer rule.column ≡ c → break_in rule.demand layer c ≡ Some x
+        → Breaks content (OfValues rule) x × (HoldsSaid content (OfValues rule) → ⊥)
+    on layer is None js g = cc
+    on layer is (Some column) js g =
+        let found : IsValueBreak rule.demand column.number layer x =
+        ((value_breaks_are_these rule.demand column.number layer (layer-fits content rule.layer layer fine is).rising).just x).0 (first-in (breaks_in rule.demand column.number layer) x g) in (
+          (layer, column, is, js, found),
+          λ holds. value-break-fails rule.demand column.number layer x found (subst (HoldsInColumn rule.demand layer) js (subst (HoldsInLayer rule) is holds)),
+        )
+
+    at : (o : Option LayerContent) → layer_of content rule.layer ≡ o → break_on rule o ≡ Some x → Breaks content (OfValues rule) x × (HoldsSaid content (OfValues rule) → ⊥)
+    at None is g = cc
+    at (Some layer) is g = on layer is (column_named layer rule.column) refl g
+
+said-breaks : (content : Content) (says : Says) (x : Break) → IsWellFormed content → break_said content says ≡ Some x → Breaks content says x × (HoldsSaid content says → ⊥)
+said-breaks content (OfLayers rule) x fine least = layers-break content rule x fine least
+said-breaks content (OfValues rule) x fine least = values-break content rule x fine least
+
+-- a rule that stands at a place and is broken
+pub broken-at : (content : Content) (rules : List Rule) (broken : Broken) (rule : Rule) → IsWellFormed content → slice_get rules broken.place ≡ Some rule → break_of content rule ≡ Some broken.least
+    → IsBrokenBy content rules broken
+broken-at content rules broken rule fine stands least =
+    let both = said-breaks content rule.says broken.least fine least in
+    record { rule = rule; stands = stands; breaks = both.0; fails = both.1 }
 
 pub reported_rules_are_broken : ReportedRulesAreBroken
 reported_rules_are_broken content rules broken fine h =

@@ -7,7 +7,9 @@ pub mod LoopLaws
 pub mod LeavingLaws
 pub mod WholeLaws
 pub mod MutualLaws
+pub mod PlaceLaws
 pub mod UnderwayLaws
+pub mod ColumnLaws
 pub mod HoldsLaws
 pub mod NearLaws
 mod Computed

@@ -22,7 +22,7 @@ use Rattle.sf_query.specs.declared.ask.Ask.{Ask}
 use Rattle.sf_query.specs.declared.ask.Ask.TheVariants.{Matching, Named}
 use Rattle.sf_joins.specs.Converse.{HasNineLetters, converse}
 use Rattle.sf_joins.specs.Joins.{are_distinct}
-use Rattle.sf_rules.specs.declared.rule.Rule.{Rule}
+use Rattle.sf_rules.specs.declared.rule.LayerRule.{LayerRule}
 use Rattle.sf_rules.specs.Underway.{IsBetween}
 use Rattle.sf_query.specs.Answers.{is_asked}
 use Rattle.sf_rules.specs.declared.between.Between.{Between}
@@ -161,7 +161,7 @@ own-converse (Named Crosses) nine h = refl
 own-converse (Named Overlaps) nine h = refl
 
 -- what the two layers of a rule are, where both are one and the ask is its own converse
-pub is-mutual : (content : Content) (rule : Rule) (between : Between) (told : Bool) → IsBetween content rule [] between → IsLayer between.first.now → told ≡ (between.one && is_own_converse between.ask) → told ≡ true
+pub is-mutual : (content : Content) (rule : LayerRule) (between : Between) (told : Bool) → IsBetween content rule [] between → IsLayer between.first.now → told ≡ (between.one && is_own_converse between.ask) → told ≡ true
     → IsMutual between
 is-mutual content rule between told is fine says so =
     let h = and_true between.one (is_own_converse between.ask) (sym says ∙ so) in

@@ -14,62 +14,24 @@ use Rattle.sf_patches.specs.declared.slot.Slot.{Slot}
 use Rattle.sf_patches.specs.declared.slot.Slot.TheVariants.{State}
 use Rattle.sf_rules.specs.declared.between.Between.{Between}
 use Rattle.sf_rules.specs.declared.rule.Rule.{Rule}
+use Rattle.sf_rules.specs.declared.rule.LayerRule.{LayerRule}
 use Rattle.sf_rules.specs.declared.rule.Form.{Form}
 use Rattle.sf_rules.specs.declared.rule.Form.TheVariants.{Never, Each}
 use Rattle.sf_rules.specs.declared.breaks.Break.{Break}
 use Rattle.sf_rules.specs.Breaks.{least_from}
-use Rattle.sf_rules.specs.Rules.{alone_break, break_by, break_of, breaks_between, broken_from, broken_or, first_of, lacks_partner, of_one, pair_break}
+use Rattle.sf_rules.specs.Rules.{alone_break, break_between, break_by, break_of, breaks_between, broken_from, broken_or, first_of, lacks_partner, of_one, pair_break}
 use Rattle.sf_rules.specs.Looks.{looked_at, staying}
 use Rattle.sf_rules.specs.Leaving.{is_leaving}
 use Rattle.sf_rules.specs.Underway.{CanLeave, ComesOf, IsBetween}
-use Rattle.sf_patches.proofs.Undoing.{undone_by}
 use Rattle.sf_query.proofs.QueryLaws.{layer-fits}
-use Rattle.sf_patches.proofs.ExchangeLaws.{AreRising-fine, KeepRising-fine, undone_by-undoing}
 use Rattle.sf_patches.proofs.TakenBack.{IsWellFormed-patched}
-use Rattle.sf_layers.proofs.Changes.{layer_of-place_of}
 use Rattle.sf_rules.proofs.LookLaws.{IsAround, alone-looked, pairs-looked}
-use Rattle.sf_rules.proofs.SlotLaws.{kept-by, keys-patched, left-by-removals, recorded-by}
-
--- ---- names and places
-
--- a layer that has a place in one content has it in every one with the same names
-layer-at : (content now : Content) (name : List ℕ) (layer : LayerContent) → keys_of content ≡ keys_of now → layer_of content name ≡ Some layer → layer_at content (place_of now name) ≡ Some layer
-layer-at content now name layer same found =
-    ap (λ keys. layer_at content (position_or_len (bytes_eq name) keys)) (sym same) ∙ layer_of-place_of content name ∙ found
-
--- and is there in each
-layer-there : (content now : Content) (name : List ℕ) (layer : LayerContent) → keys_of content ≡ keys_of now → layer_of now name ≡ Some layer → (other : LayerContent) × (layer_of content name ≡ Some other)
-layer-there [] [] name layer same found = cc
-layer-there [] (e ∷ es) name layer same found = let wrong : [] ≡ e.0 ∷ keys_of es = same in cc
-layer-there (e ∷ es) [] name layer same found = let wrong : e.0 ∷ keys_of es ≡ [] = same in cc
-layer-there (d ∷ ds) (e ∷ es) name layer same found = by (bytes_eq name e.0) refl found (layer-there ds es name layer rest)
-  where
-    key : d.0 ≡ e.0
-    key = cc
-
-    rest : keys_of ds ≡ keys_of es
-    rest = cc
-
-    by : (b : Bool) → bytes_eq name e.0 ≡ b → cond b (Some e.1) (layer_of es name) ≡ Some layer
-        → (layer_of es name ≡ Some layer → (other : LayerContent) × (layer_of ds name ≡ Some other))
-        → (other : LayerContent) × (cond (bytes_eq name d.0) (Some d.1) (layer_of ds name) ≡ Some other)
-    by true is g later = (d.1, ap (λ b. cond b (Some d.1) (layer_of ds name)) (ap (bytes_eq name) key ∙ is))
-    by false is g later = let o = later g in (o.0, ap (λ b. cond b (Some d.1) (layer_of ds name)) (ap (bytes_eq name) key ∙ is) ∙ o.1)
-
-layer-missing : (content now : Content) (name : List ℕ) → keys_of content ≡ keys_of now → layer_of now name ≡ None → layer_of content name ≡ None
-layer-missing content now name same none = by (layer_of content name) refl
-  where
-    by : (o : Option LayerContent) → layer_of content name ≡ o → o ≡ None
-    by None is = refl
-    by (Some layer) is = let there = layer-there now content name layer (sym same) is in let wrong : None ≡ Some there.0 = sym none ∙ there.1 in cc
-
--- what stands under an identifier of a layer at a place
-at-place : (content : Content) (place id : ℕ) (layer : LayerContent) → layer_at content place ≡ Some layer → feature_at content place id ≡ feature_of layer id
-at-place content place id layer is = ap (option_and_then (λ l. feature_of l id)) is
+use Rattle.sf_rules.proofs.PlaceLaws.{kept-at, layer-at, layer-missing, layer-there, recorded-at, stays-at}
+use Rattle.sf_rules.proofs.SlotLaws.{keys-patched}
 
 -- ---- the layers of a rule, before and after
 
-record AreThere (content now : Content) (rule : Rule) : Type 0 where
+record AreThere (content now : Content) (rule : LayerRule) : Type 0 where
   first : LayerContent
   second : LayerContent
   first_of_name : layer_of content rule.first ≡ Some first
@@ -77,7 +39,7 @@ record AreThere (content now : Content) (rule : Rule) : Type 0 where
   first_at : layer_at content (place_of now rule.first) ≡ Some first
   second_at : layer_at content (place_of now rule.second) ≡ Some second
 
-are-there : (content now : Content) (rule : Rule) (first second : LayerContent) → keys_of content ≡ keys_of now → layer_of now rule.first ≡ Some first → layer_of now rule.second ≡ Some second
+are-there : (content now : Content) (rule : LayerRule) (first second : LayerContent) → keys_of content ≡ keys_of now → layer_of now rule.first ≡ Some first → layer_of now rule.second ≡ Some second
     → AreThere content now rule
 are-there content now rule first second same found founds =
     let f = layer-there content now rule.first first same found in
@@ -91,7 +53,7 @@ are-there content now rule first second same found founds =
       second_at = layer-at content now rule.second s.0 same s.1;
     }
 
-break-there : (content now : Content) (rule : Rule) (t : AreThere content now rule) → break_of content rule ≡ first_of (breaks_between rule.form (of_one rule) t.first rule.ask t.second)
+break-there : (content now : Content) (rule : LayerRule) (t : AreThere content now rule) → break_between content rule ≡ first_of (breaks_between rule.form (of_one rule) t.first rule.ask t.second)
 break-there content now rule t = ap (λ o. break_by rule o (layer_of content rule.second)) t.first_of_name ∙ ap (break_by rule (Some t.first)) t.second_of_name
 
 no-first : {X : Type 0} (f : X → Break) (xs : List X) → first_of (map f xs) ≡ None → xs ≡ []
@@ -100,7 +62,7 @@ no-first f (x ∷ xs) h = cc
 
 -- ---- the law
 
-module _ (old now : Content) (rule : Rule) (made leaving : List Slot) (between : Between) (comes : ComesOf old now made) (leaves : CanLeave now leaving) (is : IsBetween now rule leaving between) where
+module _ (old now : Content) (rule : LayerRule) (made leaving : List Slot) (between : Between) (comes : ComesOf old now made) (leaves : CanLeave now leaving) (is : IsBetween now rule leaving between) where
   new : Content
   new = patched now leaving
 
@@ -135,34 +97,10 @@ module _ (old now : Content) (rule : Rule) (made leaving : List Slot) (between :
   new-second : layer_at new between.second_place ≡ Some new-there.second
   new-second = ap (layer_at new) is.second_place ∙ new-there.second_at
 
-  stays-at : (place id : ℕ) (after here : LayerContent) → layer_at new place ≡ Some after → layer_at now place ≡ Some here → feature_of after id ≡ staying here between.leaving.now place id
+  stays-between : (place id : ℕ) (after here : LayerContent) → layer_at new place ≡ Some after → layer_at now place ≡ Some here → feature_of after id ≡ staying here between.leaving.now place id
   unfolding new
-  stays-at place id after here after_is here_is =
-      sym (at-place new place id after after_is)
-      ∙ left-by-removals now leaving place id (AreRising-fine now is.well_formed) (KeepRising-fine now leaving leaves.fine) leaves.only
-      ∙ ap (λ (o : Option FeatureContent). if is_leaving leaving place id then None else o) (at-place now place id here here_is)
-      ∙ ap (λ (slots : List Slot). staying here slots place id) (sym is.leaves)
-
-  recorded-is : made ≡ undone_by old comes.exchanges
-  recorded-is = comes.recorded ∙ sym (undone_by-undoing old comes.exchanges)
-
-  kept-at : (place id : ℕ) (here before : LayerContent) → layer_at now place ≡ Some here → layer_at old place ≡ Some before → list_any (is_of_id place id) made ≡ false → feature_of here id ≡ feature_of before id
-  kept-at place id here before here_is before_is none =
-      sym (at-place now place id here here_is)
-      ∙ ap (λ c. feature_at c place id) comes.led
-      ∙ kept-by old comes.exchanges place id (ap (list_any (is_of_id place id)) (sym recorded-is) ∙ none)
-      ∙ at-place old place id before before_is
-
-  recorded-at : (place id : ℕ) (here before : LayerContent) → layer_at now place ≡ Some here → layer_at old place ≡ Some before
-      → (feature_of here id ≡ feature_of before id) ⊎ Contains made (State place id (feature_of before id))
-  recorded-at place id here before here_is before_is = by (recorded-by old comes.exchanges place id)
-    where
-      by : (feature_at (patched old comes.exchanges) place id ≡ feature_at old place id) ⊎ Contains (undone_by old comes.exchanges) (State place id (feature_at old place id))
-          → (feature_of here id ≡ feature_of before id) ⊎ Contains made (State place id (feature_of before id))
-      by (inl kept) = inl (sym (at-place now place id here here_is) ∙ ap (λ c. feature_at c place id) comes.led ∙ kept ∙ at-place old place id before before_is)
-      by (inr there) =
-          inr (subst (λ slots. Contains slots (State place id (feature_of before id))) (sym recorded-is)
-          (subst (λ o. Contains (undone_by old comes.exchanges) (State place id o)) (at-place old place id before before_is) there))
+  stays-between place id after here after_is here_is =
+      stays-at old now made leaving comes leaves is.well_formed place id after here after_is here_is ∙ ap (λ (slots : List Slot). staying here slots place id) (sym is.leaves)
 
   new-fine : IsWellFormed new
   unfolding new
@@ -177,20 +115,20 @@ module _ (old now : Content) (rule : Rule) (made leaving : List Slot) (between :
     new_rising = (layer-fits new rule.first new-there.first new-fine new-there.first_of_name).rising;
     new_risings = (layer-fits new rule.second new-there.second new-fine new-there.second_of_name).rising;
     old_risings = (layer-fits old rule.second old-there.second comes.well_formed old-there.second_of_name).rising;
-    stays = λ id. stays-at between.first_place id new-there.first between.first.now new-first now-first;
-    stays_second = λ id. stays-at between.second_place id new-there.second between.second.now new-second now-second;
-    kept = λ id none. kept-at between.first_place id between.first.now old-there.first now-first old-first none;
-    kept_second = λ id none. kept-at between.second_place id between.second.now old-there.second now-second old-second none;
-    recorded = λ id. recorded-at between.second_place id between.second.now old-there.second now-second old-second;
+    stays = λ id. stays-between between.first_place id new-there.first between.first.now new-first now-first;
+    stays_second = λ id. stays-between between.second_place id new-there.second between.second.now new-second now-second;
+    kept = λ id none. kept-at old now made leaving comes leaves is.well_formed between.first_place id between.first.now old-there.first now-first old-first none;
+    kept_second = λ id none. kept-at old now made leaving comes leaves is.well_formed between.second_place id between.second.now old-there.second now-second old-second none;
+    recorded = λ id. recorded-at old now made leaving comes leaves is.well_formed between.second_place id between.second.now old-there.second now-second old-second;
   }
 
-  held-before : break_of old rule ≡ None → first_of (breaks_between rule.form between.one old-there.first between.ask old-there.second) ≡ None
+  held-before : break_between old rule ≡ None → first_of (breaks_between rule.form between.one old-there.first between.ask old-there.second) ≡ None
   held-before held =
       ap (λ o. first_of (breaks_between rule.form o old-there.first between.ask old-there.second)) is.one
       ∙ ap (λ a. first_of (breaks_between rule.form (of_one rule) old-there.first a old-there.second)) is.ask
       ∙ sym (break-there old now rule old-there) ∙ held
 
-  breaks-after : first_of (breaks_between rule.form between.one new-there.first between.ask new-there.second) ≡ break_of new rule
+  breaks-after : first_of (breaks_between rule.form between.one new-there.first between.ask new-there.second) ≡ break_between new rule
   breaks-after =
       ap (λ o. first_of (breaks_between rule.form o new-there.first between.ask new-there.second)) is.one
       ∙ ap (λ a. first_of (breaks_between rule.form (of_one rule) new-there.first a new-there.second)) is.ask
@@ -204,12 +142,12 @@ module _ (old now : Content) (rule : Rule) (made leaving : List Slot) (between :
       (no-first alone_break (keys_of (filter (lacks_partner between.one between.ask old-there.second) old-there.first.features)) none)
 
   -- the least break of those that are looked at is the first one
-  pub break-near : break_of old rule ≡ None → least_from None (looked_at rule.form between made) ≡ break_of (patched now leaving) rule
+  pub break-near : break_between old rule ≡ None → least_from None (looked_at rule.form between made) ≡ break_between (patched now leaving) rule
   unfolding new
   break-near held = by-form rule.form (held-before held) ∙ breaks-after
 
 -- a rule of which a layer is not there
-pub missing-near : (now : Content) (rule : Rule) (leaving : List Slot) → (layer_of now rule.first ≡ None) ⊎ (layer_of now rule.second ≡ None) → break_of (patched now leaving) rule ≡ None
+pub missing-near : (now : Content) (rule : LayerRule) (leaving : List Slot) → (layer_of now rule.first ≡ None) ⊎ (layer_of now rule.second ≡ None) → break_between (patched now leaving) rule ≡ None
 missing-near now rule leaving (inl none) =
     ap (λ o. break_by rule o (layer_of (patched now leaving) rule.second)) (layer-missing (patched now leaving) now rule.first (keys-patched now leaving) none)
 missing-near now rule leaving (inr none) =

@@ -17,12 +17,12 @@ use Rattle.sf_joins.specs.Joins.{are_distinct, is_pair}
 use Rattle.sf_query.specs.Answers.{is_asked}
 use Rattle.sf_patches.specs.declared.slot.Slot.{Slot}
 use Rattle.sf_rules.specs.declared.between.Between.{Between}
-use Rattle.sf_rules.specs.declared.rule.Rule.{Rule}
+use Rattle.sf_rules.specs.declared.rule.LayerRule.{LayerRule}
 use Rattle.sf_rules.specs.declared.rule.Form.TheVariants.{Never, Each}
 use Rattle.sf_rules.specs.declared.breaks.Break.{Break}
 use Rattle.sf_rules.specs.declared.breaks.Break.TheVariants.{Pair, Alone}
 use Rattle.sf_rules.specs.Breaks.{is_before, least_from}
-use Rattle.sf_rules.specs.Rules.{alone_break, break_by, break_of, breaks_between, first_of, lacks_partner, of_one, pair_break}
+use Rattle.sf_rules.specs.Rules.{alone_break, break_by, break_between, breaks_between, first_of, lacks_partner, of_one, pair_break}
 use Rattle.sf_rules.specs.Leaving.{is_leaving}
 use Rattle.sf_rules.specs.Looks.{alone_of_entry, has_partner, is_partner, pairs_of_entry, pairs_with, partners, staying}
 use Rattle.sf_rules.specs.Underway.{IsBetween}
@@ -124,11 +124,11 @@ map-append [] ys = refl
 map-append (x ∷ xs) ys = ap (λ bs. pair_break x ∷ bs) (map-append xs ys)
 
 -- the layers of a rule where no feature leaves
-pub none-leaves : (content : Content) (rule : Rule) (leaving : List Slot) (between : Between) → leaving ≡ [] → IsBetween content rule leaving between → IsBetween content rule [] between
+pub none-leaves : (content : Content) (rule : LayerRule) (leaving : List Slot) (between : Between) → leaving ≡ [] → IsBetween content rule leaving between → IsBetween content rule [] between
 none-leaves content rule leaving between none is = subst (λ slots. IsBetween content rule slots between) none is
 
-pub whole-never : (content : Content) (rule : Rule) (between : Between) → IsBetween content rule [] between → rule.form ≡ Never
-    → first_of (flat_map (pairs_of_entry between) between.first.now.features) ≡ break_of content rule
+pub whole-never : (content : Content) (rule : LayerRule) (between : Between) → IsBetween content rule [] between → rule.form ≡ Never
+    → first_of (flat_map (pairs_of_entry between) between.first.now.features) ≡ break_between content rule
 whole-never content rule between is form =
     ap first_of (all between.first.now.features)
     ∙ ap (λ f. first_of (breaks_between f (of_one rule) between.first.now rule.ask between.second.now)) (sym form)
@@ -150,7 +150,7 @@ whole-never content rule between is form =
         ∙ sym (map-append (row (of_one rule) rule.ask between.second.now e) (flat_map (row (of_one rule) rule.ask between.second.now) es))
 
 -- what is, is around itself
-around-now : (content : Content) (rule : Rule) (between : Between) → IsBetween content rule [] between → IsLayer between.first.now → IsLayer between.second.now
+around-now : (content : Content) (rule : LayerRule) (between : Between) → IsBetween content rule [] between → IsLayer between.first.now → IsLayer between.second.now
     → IsAround between between.first.now between.second.now between.first.now between.second.now []
 around-now content rule between is fine fines = record {
   nine = subst HasNineLetters (sym is.ask) is.nine;
@@ -167,8 +167,8 @@ around-now content rule between is fine fines = record {
   recorded = λ id. inl refl;
 }
 
-pub whole-each : (content : Content) (rule : Rule) (between : Between) → IsBetween content rule [] between → IsLayer between.first.now → IsLayer between.second.now → rule.form ≡ Each
-    → first_of (flat_map (alone_of_entry between) between.first.now.features) ≡ break_of content rule
+pub whole-each : (content : Content) (rule : LayerRule) (between : Between) → IsBetween content rule [] between → IsLayer between.first.now → IsLayer between.second.now → rule.form ≡ Each
+    → first_of (flat_map (alone_of_entry between) between.first.now.features) ≡ break_between content rule
 whole-each content rule between is fine fines form =
     ap first_of (all between.first.now.features)
     ∙ ap (λ f. first_of (breaks_between f (of_one rule) between.first.now rule.ask between.second.now)) (sym form)
@@ -196,7 +196,7 @@ whole-each content rule between is fine fines form =
         by false rest = ap (λ bs. Alone e.0 ∷ bs) rest
 
 -- a rule of which a layer is not there
-pub whole-missing : (content : Content) (rule : Rule) → (layer_of content rule.first ≡ None) ⊎ (layer_of content rule.second ≡ None) → break_of content rule ≡ None
+pub whole-missing : (content : Content) (rule : LayerRule) → (layer_of content rule.first ≡ None) ⊎ (layer_of content rule.second ≡ None) → break_between content rule ≡ None
 whole-missing content rule (inl none) = ap (λ o. break_by rule o (layer_of content rule.second)) none
 whole-missing content rule (inr none) = ap (break_by rule (layer_of content rule.first)) none ∙ by (layer_of content rule.first)
   where

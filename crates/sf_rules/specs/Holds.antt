@@ -1,11 +1,13 @@
--- When rules hold, over all points of the plane.
-use Rattle.std.specs.Prelude.{◌≡◌, ◌↔◌, ℕ, Bool, false, List, Contains, IsSome, IsTrue, None, Option, Some, slice_get}
+-- When rules hold: those between features over all points of the plane.
+use Rattle.std.specs.Prelude.{◌≡◌, ◌<◌, ◌↔◌, ℕ, Bool, false, List, Contains, IsSome, IsTrue, None, Option, Some, is_some, slice_get}
 use Rattle.std.specs.List.{AllByRecursion}
 use Rattle.std.specs.List.Sorted.{IsStrictlySortedBy}
 use Rattle.std.specs.Map.{keys_of}
 use Rattle.std.specs.Ordering.{nat_cmp}
-use Rattle.sf_features.specs.Features.{FeatureContent}
-use Rattle.sf_layers.specs.Content.{Content, LayerContent, feature_of, has_layer, layer_of}
+use Rattle.sf_features.specs.declared.attr_value.AttrValue.{AttrValue}
+use Rattle.sf_features.specs.declared.column.Column.{Column}
+use Rattle.sf_features.specs.Features.{FeatureContent, value_in}
+use Rattle.sf_layers.specs.Content.{Content, LayerContent, column_named, feature_of, has_layer, layer_of}
 use Rattle.sf_layers.specs.WellFormed.{IsWellFormed}
 use Rattle.sf_query.specs.declared.ask.Ask.{Ask}
 use Rattle.sf_joins.specs.Joins.{IsJoined}
@@ -15,8 +17,14 @@ use Rattle.sf_rules.specs.declared.breaks.Broken.{Broken}
 use Rattle.sf_rules.specs.declared.rule.Form.{Form}
 use Rattle.sf_rules.specs.declared.rule.Form.TheVariants.{Each, Never}
 use Rattle.sf_rules.specs.declared.rule.Rule.{Rule}
+use Rattle.sf_rules.specs.declared.rule.LayerRule.{LayerRule}
+use Rattle.sf_rules.specs.declared.rule.ValueRule.{ValueRule}
+use Rattle.sf_rules.specs.declared.rule.Says.{Says}
+use Rattle.sf_rules.specs.declared.rule.Says.TheVariants.{OfLayers, OfValues}
+use Rattle.sf_rules.specs.declared.rule.Demand.{Demand}
+use Rattle.sf_rules.specs.declared.rule.Demand.TheVariants.{Required, Unique}
 use Rattle.sf_rules.specs.Breaks.{is_before}
-use Rattle.sf_rules.specs.Rules.{breaks_between, first_broken, first_of, of_one}
+use Rattle.sf_rules.specs.Rules.{breaks_between, breaks_in, first_broken, first_of, of_one}
 
 -- what breaks a rule: two distinct features whose matrix over the plane is as asked, or a feature that has no other with which it is so
 abbrev pub IsBreak : Form → Bool → LayerContent → Ask → LayerContent → Break → Type 0
@@ -30,13 +38,45 @@ abbrev pub HoldsBetween : Form → Bool → LayerContent → Ask → LayerConten
 HoldsBetween Never one first ask second = (i j : ℕ) → IsJoined one first ask second i j → ⊥
 HoldsBetween Each one first ask second = (i : ℕ) (a : FeatureContent) → feature_of first i ≡ Some a → (j : ℕ) × IsJoined one first ask second i j
 
-abbrev pub HoldsBy : Rule → Option LayerContent → Option LayerContent → Type 0
+abbrev pub HoldsBy : LayerRule → Option LayerContent → Option LayerContent → Type 0
 HoldsBy rule (Some first) (Some second) = HoldsBetween rule.form (of_one rule) first rule.ask second
 HoldsBy rule first second = ⊥
 
--- a rule holds in a content: both its layers are there, and what it says is true of them
+-- ---- of the values in the column of a number
+
+-- a feature has a value there
+abbrev pub HasValue : ℕ → LayerContent → ℕ → AttrValue → Type 0
+HasValue number layer i value = (a : FeatureContent) × (feature_of layer i ≡ Some a) × (value_in number a ≡ Some value)
+
+-- what breaks a rule on values: two features that have the same value, or a feature that has none
+abbrev pub IsValueBreak : Demand → ℕ → LayerContent → Break → Type 0
+IsValueBreak Unique number layer (Pair i j) = (i < j) × ((value : AttrValue) × HasValue number layer i value × HasValue number layer j value)
+IsValueBreak Unique number layer (Alone i) = ⊥
+IsValueBreak Required number layer (Alone i) = IsSome (feature_of layer i) × ((value : AttrValue) → HasValue number layer i value → ⊥)
+IsValueBreak Required number layer (Pair i j) = ⊥
+
+-- no two features have the same value; or each has one
+abbrev pub HoldsOnValues : Demand → ℕ → LayerContent → Type 0
+HoldsOnValues Unique number layer = (i j : ℕ) (value : AttrValue) → HasValue number layer i value → HasValue number layer j value → i ≡ j
+HoldsOnValues Required number layer = (i : ℕ) → IsSome (feature_of layer i) → (value : AttrValue) × HasValue number layer i value
+
+abbrev pub HoldsInColumn : Demand → LayerContent → Option Column → Type 0
+HoldsInColumn demand layer (Some column) = HoldsOnValues demand column.number layer
+HoldsInColumn demand layer None = ⊥
+
+abbrev pub HoldsInLayer : ValueRule → Option LayerContent → Type 0
+HoldsInLayer rule (Some layer) = HoldsInColumn rule.demand layer (column_named layer rule.column)
+HoldsInLayer rule None = ⊥
+
+-- ---- each rule
+
+abbrev pub HoldsSaid : Content → Says → Type 0
+HoldsSaid content (OfLayers rule) = HoldsBy rule (layer_of content rule.first) (layer_of content rule.second)
+HoldsSaid content (OfValues rule) = HoldsInLayer rule (layer_of content rule.layer)
+
+-- a rule holds in a content: its layers and its column are there, and what it says is true of them
 abbrev pub Holds : Content → Rule → Type 0
-Holds content rule = HoldsBy rule (layer_of content rule.first) (layer_of content rule.second)
+Holds content rule = HoldsSaid content rule.says
 
 abbrev pub AllHold : Content → List Rule → Type 0
 AllHold content rules = AllByRecursion (Holds content) rules
@@ -56,25 +96,51 @@ BreaksAreOverThePlane =
     → IsStrictlySortedBy nat_cmp (keys_of first.features) → IsStrictlySortedBy nat_cmp (keys_of second.features)
     → AreBreaks form one first ask second (breaks_between form one first ask second)
 
--- the layers of a rule are there
-abbrev pub HasLayers : Content → Rule → Type 0
-HasLayers content rule = IsTrue (has_layer content rule.first) × IsTrue (has_layer content rule.second)
+-- a list has just what breaks a rule on values, no one before the first; and none where the rule holds
+pub record AreValueBreaks (demand : Demand) (number : ℕ) (layer : LayerContent) (breaks : List Break) : Type 0 where
+  pub just : (x : Break) → Contains breaks x ↔ IsValueBreak demand number layer x
+  pub least : (x y : Break) → first_of breaks ≡ Some y → Contains breaks x → is_before x y ≡ false
+  pub none : (first_of breaks ≡ None) ↔ HoldsOnValues demand number layer
 
--- no rule of layers that are there is broken just where all of them hold
+-- of a layer whose identifiers rise, what is computed is just that
+abbrev pub ValueBreaksAreThese : Type 0
+ValueBreaksAreThese =
+    (demand : Demand) (number : ℕ) (layer : LayerContent) → IsStrictlySortedBy nat_cmp (keys_of layer.features)
+    → AreValueBreaks demand number layer (breaks_in demand number layer)
+
+-- a layer has the column of a name
+abbrev pub HasColumn : List ℕ → Option LayerContent → Type 0
+HasColumn name (Some layer) = IsTrue (is_some (column_named layer name))
+HasColumn name None = ⊥
+
+abbrev pub HasSaid : Content → Says → Type 0
+HasSaid content (OfLayers rule) = IsTrue (has_layer content rule.first) × IsTrue (has_layer content rule.second)
+HasSaid content (OfValues rule) = HasColumn rule.column (layer_of content rule.layer)
+
+-- what a rule names is there: its layers, or its layer and the column
+abbrev pub HasNamed : Content → Rule → Type 0
+HasNamed content rule = HasSaid content rule.says
+
+-- no rule whose layers and columns are there is broken just where all of them hold
 abbrev pub RulesAreOverThePlane : Type 0
 RulesAreOverThePlane =
-    (content : Content) (rules : List Rule) → IsWellFormed content → AllByRecursion (HasLayers content) rules
+    (content : Content) (rules : List Rule) → IsWellFormed content → AllByRecursion (HasNamed content) rules
     → (first_broken content rules ≡ None) ↔ AllHold content rules
 
--- a rule is broken in a content: its layers are there, and so is what breaks it; so it does not hold
+-- what breaks a rule, in layers and a column that are there
+abbrev pub Breaks : Content → Says → Break → Type 0
+Breaks content (OfLayers rule) x =
+    (first : LayerContent) × (second : LayerContent) × (layer_of content rule.first ≡ Some first) × (layer_of content rule.second ≡ Some second)
+    × IsBreak rule.form (of_one rule) first rule.ask second x
+Breaks content (OfValues rule) x =
+    (layer : LayerContent) × (column : Column) × (layer_of content rule.layer ≡ Some layer) × (column_named layer rule.column ≡ Some column)
+    × IsValueBreak rule.demand column.number layer x
+
+-- a rule is broken in a content: what it names is there, and so is what breaks it; so it does not hold
 pub record IsBrokenBy (content : Content) (rules : List Rule) (broken : Broken) : Type 0 where
   pub rule : Rule
-  pub first : LayerContent
-  pub second : LayerContent
   pub stands : slice_get rules broken.place ≡ Some rule
-  pub first_there : layer_of content rule.first ≡ Some first
-  pub second_there : layer_of content rule.second ≡ Some second
-  pub breaks : IsBreak rule.form (of_one rule) first rule.ask second broken.least
+  pub breaks : Breaks content rule.says broken.least
   pub fails : Holds content rule → ⊥
 
 -- a rule that is reported is broken

@@ -4,6 +4,7 @@ pub mod Breaks
 pub mod Leaving
 pub mod Near
 pub mod Looks
+pub mod ColumnLooks
 pub mod Underway
 pub mod Exchanging
 pub mod Asked

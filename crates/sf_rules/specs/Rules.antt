@@ -1,12 +1,22 @@
--- Rules between features, and what breaks them.
-use Rattle.std.specs.Prelude.{ℕ, ◌+◌, Bool, not, List, [], ◌∷◌, filter, map, Option, None, Some, bytes_eq}
+-- Rules between features and on their values, and what breaks them.
+use Rattle.std.specs.Prelude.{ℕ, ◌+◌, Bool, false, not, ◌&&◌, List, [], ◌∷◌, filter, flat_map, map, Option, None, Some, is_some, bytes_eq, nat_lt}
 use Rattle.std.specs.List.{list_any}
 use Rattle.std.specs.Map.{keys_of}
+use Rattle.std.specs.Option.{option_map_or}
 use Rattle.sf_query.specs.declared.ask.Ask.{Ask}
-use Rattle.sf_features.specs.Features.{FeatureContent}
-use Rattle.sf_layers.specs.Content.{LayerContent, Content, layer_of}
+use Rattle.sf_features.specs.declared.attr_value.AttrValue.{AttrValue}
+use Rattle.sf_features.specs.declared.column.Column.{Column}
+use Rattle.sf_features.specs.Features.{FeatureContent, value_in}
+use Rattle.sf_features.specs.Values.{same_value}
+use Rattle.sf_layers.specs.Content.{LayerContent, Content, column_named, layer_of}
 use Rattle.sf_joins.specs.Joins.{is_pair, pairs_found}
 use Rattle.sf_rules.specs.declared.rule.Rule.{Rule}
+use Rattle.sf_rules.specs.declared.rule.LayerRule.{LayerRule}
+use Rattle.sf_rules.specs.declared.rule.ValueRule.{ValueRule}
+use Rattle.sf_rules.specs.declared.rule.Says.{Says}
+use Rattle.sf_rules.specs.declared.rule.Says.TheVariants.{OfLayers, OfValues}
+use Rattle.sf_rules.specs.declared.rule.Demand.{Demand}
+use Rattle.sf_rules.specs.declared.rule.Demand.TheVariants.{Required, Unique}
 use Rattle.sf_rules.specs.declared.rule.Form.{Form}
 use Rattle.sf_rules.specs.declared.rule.Form.TheVariants.{Never, Each}
 use Rattle.sf_rules.specs.declared.breaks.Break.{Break}
@@ -14,7 +24,7 @@ use Rattle.sf_rules.specs.declared.breaks.Break.TheVariants.{Pair, Alone}
 use Rattle.sf_rules.specs.declared.breaks.Broken.{Broken}
 
 -- whether both layers of a rule are one
-abbrev pub of_one : Rule → Bool
+abbrev pub of_one : LayerRule → Bool
 of_one rule = bytes_eq rule.first rule.second
 
 -- whether no feature of the second layer is as asked with this one of the first
@@ -39,13 +49,62 @@ abbrev pub first_of : List Break → Option Break
 first_of [] = None
 first_of (found ∷ rest) = Some found
 
-abbrev pub break_by : Rule → Option LayerContent → Option LayerContent → Option Break
+abbrev pub break_by : LayerRule → Option LayerContent → Option LayerContent → Option Break
 break_by rule (Some first) (Some second) = first_of (breaks_between rule.form (of_one rule) first rule.ask second)
 break_by rule first second = None
 
--- what breaks a rule first in a content; nothing does where a layer is not there
+-- what breaks a rule between layers first in a content; nothing does where a layer is not there
+abbrev pub break_between : Content → LayerRule → Option Break
+break_between content rule = break_by rule (layer_of content rule.first) (layer_of content rule.second)
+
+-- ---- rules on values
+
+-- whether a feature has this value in the column of a number
+abbrev pub has_value : ℕ → AttrValue → FeatureContent → Bool
+has_value number value feature = option_map_or (same_value value) (value_in number feature) false
+
+-- the features of a layer that have it, rising
+abbrev pub ids_with_value : ℕ → AttrValue → LayerContent → List ℕ
+ids_with_value number value layer = keys_of (filter (λ entry. has_value number value entry.1) layer.features)
+
+-- whether two features have the same value there, the one with the lesser identifier first
+abbrev pub is_double : ℕ → ℕ × FeatureContent → ℕ × FeatureContent → Bool
+is_double number a b = nat_lt a.0 b.0 && option_map_or (λ value. has_value number value b.1) (value_in number a.1) false
+
+-- the pairs of features of a layer that do
+abbrev pub doubles_found : ℕ → LayerContent → List (ℕ × ℕ)
+doubles_found number layer = flat_map (λ a. map (λ b. (a.0, b.0)) (filter (is_double number a) layer.features)) layer.features
+
+-- whether a feature has no value there
+abbrev pub lacks_value : ℕ → ℕ × FeatureContent → Bool
+lacks_value number a = not (is_some (value_in number a.1))
+
+-- all that breaks a rule on the values in a column, in order: the pairs, or the features without a value
+abbrev pub breaks_in : Demand → ℕ → LayerContent → List Break
+breaks_in Unique number layer = map pair_break (doubles_found number layer)
+breaks_in Required number layer = map alone_break (keys_of (filter (lacks_value number) layer.features))
+
+abbrev pub break_in : Demand → LayerContent → Option Column → Option Break
+break_in demand layer (Some column) = first_of (breaks_in demand column.number layer)
+break_in demand layer None = None
+
+abbrev pub break_on : ValueRule → Option LayerContent → Option Break
+break_on rule (Some layer) = break_in rule.demand layer (column_named layer rule.column)
+break_on rule None = None
+
+-- what breaks a rule on values first in a content; nothing does where its layer or column is not there
+abbrev pub break_of_values : Content → ValueRule → Option Break
+break_of_values content rule = break_on rule (layer_of content rule.layer)
+
+-- ---- each rule
+
+abbrev pub break_said : Content → Says → Option Break
+break_said content (OfLayers rule) = break_between content rule
+break_said content (OfValues rule) = break_of_values content rule
+
+-- what breaks a rule first in a content
 abbrev pub break_of : Content → Rule → Option Break
-break_of content rule = break_by rule (layer_of content rule.first) (layer_of content rule.second)
+break_of content rule = break_said content rule.says
 
 -- ---- several rules
 

@@ -9,7 +9,7 @@ use Rattle.sf_patches.specs.Halves.{RemovesOnly}
 use Rattle.sf_patches.specs.Patches.{patched, undoing}
 use Rattle.sf_joins.specs.Converse.{HasNineLetters, converse}
 use Rattle.sf_rules.specs.declared.between.Between.{Between}
-use Rattle.sf_rules.specs.declared.rule.Rule.{Rule}
+use Rattle.sf_rules.specs.declared.rule.LayerRule.{LayerRule}
 
 -- a content comes of another one by exchanges, of which these are what takes them back
 pub record ComesOf (old now : Content) (made : List Slot) : Type 0 where
@@ -25,7 +25,7 @@ pub record CanLeave (now : Content) (leaving : List Slot) : Type 0 where
   pub fine : StayFine now leaving
 
 -- the two layers of a rule in a content
-pub record IsBetween (content : Content) (rule : Rule) (leaving : List Slot) (between : Between) : Type 0 where
+pub record IsBetween (content : Content) (rule : LayerRule) (leaving : List Slot) (between : Between) : Type 0 where
   pub well_formed : IsWellFormed content
   pub first : layer_of content rule.first ≡ Some between.first.now
   pub second : layer_of content rule.second ≡ Some between.second.now
@@ -38,6 +38,6 @@ pub record IsBetween (content : Content) (rule : Rule) (leaving : List Slot) (be
   pub leaves : between.leaving.now ≡ leaving
 
 -- they are given, or one is not there
-abbrev pub IsBetweenOrMissing : Content → Rule → List Slot → Option Between → Type 0
+abbrev pub IsBetweenOrMissing : Content → LayerRule → List Slot → Option Between → Type 0
 IsBetweenOrMissing content rule leaving (Some between) = IsBetween content rule leaving between
 IsBetweenOrMissing content rule leaving None = (layer_of content rule.first ≡ None) ⊎ (layer_of content rule.second ≡ None)

@@ -7,14 +7,15 @@ ghost use Rattle.sf_patches.specs.Patches.{patched};
 ghost use Rattle.sf_rules.specs.Breaks.{least_from};
 ghost use Rattle.sf_rules.specs.Looks.{looked_at};
 ghost use Rattle.sf_rules.specs.Underway.{CanLeave, ComesOf};
-ghost use Rattle.sf_rules.specs.Rules.{break_of, first_broken};
+ghost use Rattle.sf_rules.specs.Rules.{break_between, break_of, break_of_values, first_broken};
 
 use super::alone::least_alone;
 use super::between::Between;
 use super::breaks::{Break, Broken};
+use super::column::{column_of, least_in_column};
 use super::leaving::Leaving;
 use super::pairs::least_pair;
-use super::rule::{Form, Rule};
+use super::rule::{Form, LayerRule, Rule, Says, ValueRule};
 use super::whole::layers_of;
 use sf_layers::Store;
 use sf_patches::Slot;
@@ -79,10 +80,46 @@ fn break_near(
     requires leave { CanLeave store.now leaving.now }
     ensures { IfOk result (λ found. found ≡ break_of (patched store.now leaving.now) rule.now) }
 {
+    match &rule.says {
+        Says::OfLayers(rule) => break_near_between(alloc, store, rule, made, leaving),
+        Says::OfValues(rule) => break_near_values(alloc, store, rule, made, leaving),
+    }
+}
+
+/// The same of a rule between layers.
+fn break_near_between(
+    alloc: Global,
+    store: &Store,
+    rule: &LayerRule,
+    made: &[Slot],
+    leaving: &Leaving<'_>,
+) -> Result<Option<Break>, AllocError>
+    requires held { (old : Content) × ComesOf old store.now made.now × (break_between old rule.now ≡ None) }
+    requires leave { CanLeave store.now leaving.now }
+    ensures { IfOk result (λ found. found ≡ break_between (patched store.now leaving.now) rule.now) }
+{
     let Some(between) = layers_of(store, rule, leaving) else {
         return Ok(None);
     };
     least_near(alloc, rule.form, &between, made)
+}
+
+/// The same of a rule on the values in a column.
+fn break_near_values(
+    alloc: Global,
+    store: &Store,
+    rule: &ValueRule,
+    made: &[Slot],
+    leaving: &Leaving<'_>,
+) -> Result<Option<Break>, AllocError>
+    requires held { (old : Content) × ComesOf old store.now made.now × (break_of_values old rule.now ≡ None) }
+    requires leave { CanLeave store.now leaving.now }
+    ensures { IfOk result (λ found. found ≡ break_of_values (patched store.now leaving.now) rule.now) }
+{
+    let Some(column) = column_of(store, rule, leaving) else {
+        return Ok(None);
+    };
+    least_in_column(alloc, rule.demand, &column, made)
 }
 
 /// The least break of those that are looked at.

@@ -2,22 +2,23 @@
 
 ghost use Rattle.std.specs.Prelude.{◌≡◌, [], IfOk, None, flat_map};
 ghost use Rattle.sf_layers.specs.WellFormed.{IsLayer};
-ghost use Rattle.sf_rules.specs.Rules.{break_of, first_of};
+ghost use Rattle.sf_rules.specs.Rules.{break_between, break_of, break_of_values, first_of};
 ghost use Rattle.sf_rules.specs.Looks.{IsMutual, alone_of_entry, pairs_of_entry};
 ghost use Rattle.sf_rules.specs.Underway.{IsBetweenOrMissing};
 
 use super::alone::least_if_alone;
 use super::between::Between;
 use super::breaks::Break;
+use super::column::{column_of, first_in_column};
 use super::leaving::Leaving;
 use super::pairs::{first_behind, least_with};
-use super::rule::{Form, Rule};
+use super::rule::{Form, LayerRule, Rule, Says, ValueRule};
 use sf_joins::converse;
 use sf_layers::Store;
 use std::alloc::{AllocError, Global};
 
-/// What breaks a rule first, of all features: the least pair, or the least feature without a partner. It is None where the rule
-/// holds, or a layer of it is not there.
+/// What breaks a rule first, of all features: the least pair, or the least feature without a partner or a value. It is None where
+/// the rule holds, or a layer or column of it is not there.
 ///
 /// # Errors
 ///
@@ -39,6 +40,37 @@ fn first_break_of(
     requires { leaving.now ≡ [] }
     ensures { IfOk result (λ found. found ≡ break_of store.now rule.now) }
 {
+    match &rule.says {
+        Says::OfLayers(rule) => first_between(alloc, store, rule, leaving),
+        Says::OfValues(rule) => first_of_values(alloc, store, rule, leaving),
+    }
+}
+
+/// The same of a rule on the values in a column.
+fn first_of_values(
+    alloc: Global,
+    store: &Store,
+    rule: &ValueRule,
+    leaving: &Leaving<'_>,
+) -> Result<Option<Break>, AllocError>
+    ensures { IfOk result (λ found. found ≡ break_of_values store.now rule.now) }
+{
+    let Some(column) = column_of(store, rule, leaving) else {
+        return Ok(None);
+    };
+    first_in_column(alloc, rule.demand, &column)
+}
+
+/// The same of a rule between layers.
+fn first_between(
+    alloc: Global,
+    store: &Store,
+    rule: &LayerRule,
+    leaving: &Leaving<'_>,
+) -> Result<Option<Break>, AllocError>
+    requires { leaving.now ≡ [] }
+    ensures { IfOk result (λ found. found ≡ break_between store.now rule.now) }
+{
     let Some(between) = layers_of(store, rule, leaving) else {
         return Ok(None);
     };
@@ -57,7 +89,7 @@ fn first_break_of(
 /// The two layers of a rule, or None where one is not there.
 pub(crate) fn layers_of<'a>(
     store: &'a Store,
-    rule: &Rule,
+    rule: &LayerRule,
     leaving: &'a Leaving<'a>,
 ) -> Option<Between<'a>>
     ensures { IsBetweenOrMissing store.now rule.now leaving.now result }

@@ -1,0 +1,334 @@
+//! What breaks a rule on the values in a column: two features that have the same value, or one that has none.
+
+ghost use Rattle.std.specs.Prelude.{◌≡◌, IfOk, None, Some, filter, flat_map, map, nat_lt, option_copied};
+ghost use Rattle.std.specs.List.{find};
+ghost use Rattle.sf_layers.specs.Content.{column_named};
+ghost use Rattle.sf_rules.specs.declared.breaks.Break.TheVariants.{Pair};
+ghost use Rattle.sf_rules.specs.Breaks.{least_from};
+ghost use Rattle.sf_rules.specs.ColumnLooks.{IsInColumnOrMissing, double_of, doubles_behind, doubles_beside, is_other as is_other_of, lacking_by, values_at, values_behind, values_beside, values_looked_at, values_of_entry, values_of_slot, values_of_some};
+ghost use Rattle.sf_rules.specs.Rules.{first_of, has_value as has_value_of, ids_with_value as ids_with_value_of};
+
+use super::between::staying;
+use super::breaks::{Break, lesser};
+use super::leaving::Leaving;
+use super::rule::{Demand, ValueRule};
+use sf_layers::{AttrValue, Column, Feature, Layer, Store};
+use sf_patches::Slot;
+use std::alloc::{AllocError, Global};
+
+/// A column that a rule is about, its layer, and the features that are still to be removed.
+#[derive(Drop)]
+pub(crate) struct InColumn<'a> {
+    pub(crate) layer: &'a Layer,
+    /// The place of the layer in the drawing order.
+    pub(crate) place: usize,
+    /// The number of the column.
+    pub(crate) number: u16,
+    pub(crate) leaving: &'a Leaving<'a>,
+}
+
+impl<'a> InColumn<'a> {
+    /// Whether this is another feature of the layer, and stays.
+    fn is_other(&self, id: u32, other: u32) -> bool
+        ensures { result ≡ is_other_of self.now id other }
+    {
+        id != other && !self.leaving.has(self.place, other)
+    }
+}
+
+/// The column of a rule, or None where its layer or the column is not there.
+pub(crate) fn column_of<'a>(
+    store: &'a Store,
+    rule: &ValueRule,
+    leaving: &'a Leaving<'a>,
+) -> Option<InColumn<'a>>
+    ensures { IsInColumnOrMissing store.now rule.now leaving.now result }
+{
+    let Some(layer) = store.layer(rule.layer.as_str()) else {
+        return None;
+    };
+    let Some(place) = store.place(rule.layer.as_str()) else {
+        return None;
+    };
+    let Some(column) = column_by_name(layer, rule.column.as_str()) else {
+        return None;
+    };
+    Some(InColumn {
+        layer,
+        place,
+        number: column.number,
+        leaving,
+    })
+}
+
+/// The column of a name, or None where the layer has none.
+fn column_by_name<'a>(layer: &'a Layer, name: &str) -> Option<&'a Column>
+    ensures { option_copied result ≡ column_named layer.now name.now }
+{
+    match layer.column_place(name) {
+        Some(place) => layer.column_at(place),
+        None => None,
+    }
+}
+
+/// What breaks the rule first, of all features.
+pub(crate) fn first_in_column(
+    alloc: Global,
+    demand: Demand,
+    column: &InColumn<'_>,
+) -> Result<Option<Break>, AllocError>
+    ensures { IfOk result (λ found. found ≡ first_of
+        (flat_map (values_of_entry demand column.now) column.now.layer.now.features)) }
+{
+    for (id, feature) in column.layer.features() {
+        let first = first_of_feature(alloc, demand, column, *id, feature.value(column.number))?;
+        if first.is_some() {
+            return Ok(first);
+        }
+    }
+    Ok(None)
+}
+
+/// The first break of a feature with one behind it, or by itself.
+fn first_of_feature(
+    alloc: Global,
+    demand: Demand,
+    column: &InColumn<'_>,
+    id: u32,
+    value: Option<&AttrValue>,
+) -> Result<Option<Break>, AllocError>
+    ensures { IfOk result (λ found. found ≡ first_of
+        (values_behind demand column.now id (option_copied value.entry))) }
+{
+    match demand {
+        Demand::Unique => first_double(alloc, column, id, value),
+        Demand::Required => Ok(first_lacking(id, value)),
+    }
+}
+
+/// The first pair of a feature with one behind it that has the same value.
+fn first_double(
+    alloc: Global,
+    column: &InColumn<'_>,
+    id: u32,
+    value: Option<&AttrValue>,
+) -> Result<Option<Break>, AllocError>
+    ensures { IfOk result (λ found. found ≡ first_of
+        (doubles_behind column.now id (option_copied value.entry))) }
+{
+    let Some(value) = value else {
+        return Ok(None);
+    };
+    let ids = ids_with_value(alloc, column.layer, column.number, value)?;
+    Ok(first_behind(id, ids.as_slice()))
+}
+
+/// The pair of an identifier with the first of these behind it.
+fn first_behind(id: u32, others: &[u32]) -> Option<Break>
+    ensures { result ≡ first_of (map (λ j. Pair id j) (filter (λ j. nat_lt id j) others.now)) }
+{
+    match behind(id, others) {
+        Some(second) => Some(Break::Pair {
+            first: id,
+            second: *second,
+        }),
+        None => None,
+    }
+}
+
+/// The first of these identifiers behind one.
+fn behind(id: u32, others: &[u32]) -> Option<&u32>
+    ensures { option_copied result ≡ find (λ j. nat_lt id j) others.now }
+{
+    others.iter().find(|other| id < **other)
+}
+
+/// A feature by itself, where it has no value.
+fn first_lacking(id: u32, value: Option<&AttrValue>) -> Option<Break>
+    ensures { result ≡ first_of (lacking_by id (option_copied value.entry)) }
+{
+    match value {
+        Some(_) => None,
+        None => Some(Break::Alone { id }),
+    }
+}
+
+/// The least break of the features that were changed.
+pub(crate) fn least_in_column(
+    alloc: Global,
+    demand: Demand,
+    column: &InColumn<'_>,
+    made: &[Slot],
+) -> Result<Option<Break>, AllocError>
+    ensures { IfOk result (λ found. found ≡ least_from None
+        (values_looked_at demand column.now made.now)) }
+{
+    let mut least = None;
+    for slot in made {
+        least = least_of_slot(alloc, demand, column, slot, least)?;
+    }
+    Ok(least)
+}
+
+/// The least of the breaks of what was changed under one identifier, and of what was the least before.
+fn least_of_slot(
+    alloc: Global,
+    demand: Demand,
+    column: &InColumn<'_>,
+    slot: &Slot,
+    least: Option<Break>,
+) -> Result<Option<Break>, AllocError>
+    ensures { IfOk result (λ found. found ≡ least_from least
+        (values_of_slot demand column.now slot.now)) }
+{
+    let Slot::State { place, id, .. } = slot else {
+        return Ok(least);
+    };
+    least_at(alloc, demand, column, *place, *id, least)
+}
+
+/// The same of what stands under an identifier of a place.
+fn least_at(
+    alloc: Global,
+    demand: Demand,
+    column: &InColumn<'_>,
+    place: usize,
+    id: u32,
+    least: Option<Break>,
+) -> Result<Option<Break>, AllocError>
+    ensures { IfOk result (λ found. found ≡ least_from least
+        (values_at demand column.now place id)) }
+{
+    if place != column.place {
+        return Ok(least);
+    }
+    match staying(column.layer, column.leaving, place, id) {
+        Some(feature) => least_of(alloc, demand, column, id, feature, least),
+        None => Ok(least),
+    }
+}
+
+/// The same of a feature.
+fn least_of(
+    alloc: Global,
+    demand: Demand,
+    column: &InColumn<'_>,
+    id: u32,
+    feature: &Feature,
+    least: Option<Break>,
+) -> Result<Option<Break>, AllocError>
+    ensures { IfOk result (λ found. found ≡ least_from least
+        (values_of_some demand column.now id (Some feature.now))) }
+{
+    least_by_value(alloc, demand, column, id, feature.value(column.number), least)
+}
+
+/// The same of a feature with this value, or with none.
+fn least_by_value(
+    alloc: Global,
+    demand: Demand,
+    column: &InColumn<'_>,
+    id: u32,
+    value: Option<&AttrValue>,
+    least: Option<Break>,
+) -> Result<Option<Break>, AllocError>
+    ensures { IfOk result (λ found. found ≡ least_from least
+        (values_beside demand column.now id (option_copied value.entry))) }
+{
+    match demand {
+        Demand::Unique => least_double(alloc, column, id, value, least),
+        Demand::Required => Ok(least_lacking(id, value, least)),
+    }
+}
+
+/// The least of the pairs of a feature with others that have the same value, and of what was the least before.
+fn least_double(
+    alloc: Global,
+    column: &InColumn<'_>,
+    id: u32,
+    value: Option<&AttrValue>,
+    least: Option<Break>,
+) -> Result<Option<Break>, AllocError>
+    ensures { IfOk result (λ found. found ≡ least_from least
+        (doubles_beside column.now id (option_copied value.entry))) }
+{
+    let Some(value) = value else {
+        return Ok(least);
+    };
+    let ids = ids_with_value(alloc, column.layer, column.number, value)?;
+    Ok(least_with(column, id, ids.as_slice(), least))
+}
+
+/// The least of the pairs of an identifier with these, and of what was the least before.
+fn least_with(
+    column: &InColumn<'_>,
+    id: u32,
+    others: &[u32],
+    least: Option<Break>,
+) -> Option<Break>
+    ensures { result ≡ least_from least
+        (map (double_of id) (filter (is_other_of column.now id) others.now)) }
+{
+    let mut least = least;
+    for other in others {
+        if column.is_other(id, *other) {
+            least = lesser(double(id, *other), least);
+        }
+    }
+    least
+}
+
+/// Two features that have the same value, that with the lesser identifier first.
+fn double(id: u32, other: u32) -> Break
+    ensures { result ≡ double_of id other }
+{
+    if id < other {
+        Break::Pair {
+            first: id,
+            second: other,
+        }
+    } else {
+        Break::Pair {
+            first: other,
+            second: id,
+        }
+    }
+}
+
+/// The lesser of a feature that has no value, and of what was the least before.
+fn least_lacking(id: u32, value: Option<&AttrValue>, least: Option<Break>) -> Option<Break>
+    ensures { result ≡ least_from least (lacking_by id (option_copied value.entry)) }
+{
+    match value {
+        Some(_) => least,
+        None => lesser(Break::Alone { id }, least),
+    }
+}
+
+/// The features that have a value in the column of a number, rising.
+fn ids_with_value(
+    alloc: Global,
+    layer: &Layer,
+    number: u16,
+    value: &AttrValue,
+) -> Result<Vec<u32>, AllocError>
+    ensures { IfOk result (λ ids. ids.items ≡ ids_with_value_of number value.now layer.now) }
+{
+    let mut ids = Vec::new(alloc);
+    for (id, feature) in layer.features() {
+        if has_value(feature, number, value) {
+            ids.push(*id)?;
+        }
+    }
+    Ok(ids)
+}
+
+/// Whether a feature has this value in the column of a number.
+fn has_value(feature: &Feature, number: u16, value: &AttrValue) -> bool
+    ensures { result ≡ has_value_of number value.now feature.now }
+{
+    match feature.value(number) {
+        Some(other) => value.is_same(other),
+        None => false,
+    }
+}
