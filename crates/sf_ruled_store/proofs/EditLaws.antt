@@ -14,16 +14,22 @@ use Rattle.sf_steps.specs.declared.refusal.Refusal.TheVariants.{NoLayer, BadName
 use Rattle.sf_steps.specs.Steps.{add_column, checks, drop_column, edit_layer, effect, first_refusal}
 use Rattle.sf_steps.proofs.Passes.{absent_from_not, passed, there_from_test}
 use Rattle.sf_changes.specs.Changes.{OfEdit}
+use Rattle.sf_features.specs.declared.column.Column.{Column}
+use Rattle.sf_layers.specs.Content.{column_named}
 use Rattle.sf_rules.specs.declared.rule.Rule.{Rule}
-use Rattle.sf_rules.specs.Rules.{first_broken, of_one}
+use Rattle.sf_rules.specs.declared.rule.LayerRule.{LayerRule}
+use Rattle.sf_rules.specs.declared.rule.ValueRule.{ValueRule}
+use Rattle.sf_rules.specs.declared.rule.Says.{Says}
+use Rattle.sf_rules.specs.declared.rule.Says.TheVariants.{OfLayers, OfValues}
+use Rattle.sf_rules.specs.Rules.{break_between, break_on, break_said, first_broken, of_one}
 use Rattle.sf_ruled_store.specs.declared.refusal.Refusal.{Refusal}
-use Rattle.sf_ruled_store.specs.declared.refusal.Refusal.TheVariants.{LayerRuled}
 use Rattle.sf_ruled_store.specs.Outcomes.{ruled}
-use Rattle.sf_ruled_store.specs.Ruled.{Ruled, has_layers, renamed, rules_after, settled, unless_broken, with_renamed}
-use Rattle.sf_ruled_store.specs.Undos.{IsSettled, IsUnseen, changes_geometries, ends_name, is_of_layer, names_layer}
+use Rattle.sf_ruled_store.specs.Ruled.{Ruled, has_column_in, has_named, has_said, renamed, renamed_said, rules_after, settled, unless_broken, why_missing, with_renamed}
+use Rattle.sf_ruled_store.specs.Undos.{IsSettled, IsUnseen, changes_geometries, ends_name, is_seen, sees, sees_said}
 use Rattle.sf_ruled_store.proofs.RuleNames.{named-alike}
 use Rattle.sf_ruled_store.proofs.NameLaws.{itself, layer_of-moved, layer_of-push, layer_of-remove-other, layer_of-renamed, layer_of-renamed-other, same-names, turned}
-use Rattle.sf_ruled_store.proofs.ShapeLaws.{Features, IsAlike, break-alike, broken-alike, has-alike, layers-alike, shape_of, shapes, shapes_in}
+use Rattle.sf_ruled_store.proofs.SightLaws.{unseen-kept, values-alike}
+use Rattle.sf_ruled_store.proofs.ShapeLaws.{Features, IsAlike, break-alike, broken-alike, has-alike, shape_of, shapes, shapes_in, there-alike}
 
 -- ---- changes of a layer that keep its shapes
 
@@ -116,46 +122,88 @@ and_true true true h = (refl, refl)
 and_true true false h = cc
 and_true false b h = cc
 
-or-left : (a b : Bool) → a ≡ true → a || b ≡ true
-or-left a b h = ap (λ c. c || b) h
+or_false : (a b : Bool) → a || b ≡ false → (a ≡ false) × (b ≡ false)
+or_false true b h = cc
+or_false false b h = (refl, h)
 
-or-right : (a b : Bool) → b ≡ true → a || b ≡ true
-or-right true b h = refl
-or-right false b h = h
+-- what a rule says in a new content is broken as what another said in the old, and all that it names is there as it was
+abbrev SaidAlike : Content → Content → Says → Says → Type 0
+SaidAlike old new says says' = (break_said new says' ≡ break_said old says) × (has_said new says' ≡ has_said old says)
 
 -- both layers of a rule keep their shapes
-alike-by : (old new : Content) (rule : Rule) (f : List ℕ → List ℕ) → bytes_eq (f rule.first) (f rule.second) ≡ of_one rule
+alike-by : (old new : Content) (rule : LayerRule) (f : List ℕ → List ℕ) → bytes_eq (f rule.first) (f rule.second) ≡ of_one rule
     → shapes_in new (f rule.first) ≡ shapes_in old rule.first → shapes_in new (f rule.second) ≡ shapes_in old rule.second
-    → IsAlike old new rule (record rule { first = f rule.first; second = f rule.second })
-alike-by old new rule f one first second = record {
-  breaks = break-alike old new rule (f rule.first) (f rule.second) one first second;
-  layers =
-      ap (λ b. b && has_layer new (f rule.second)) (has-alike old new rule.first (f rule.first) first)
-      ∙ ap (λ b. has_layer old rule.first && b) (has-alike old new rule.second (f rule.second) second);
-}
+    → SaidAlike old new (OfLayers rule) (OfLayers (record rule { first = f rule.first; second = f rule.second }))
+alike-by old new rule f one first second = (
+  break-alike old new rule (f rule.first) (f rule.second) one first second,
+  ap (λ b. b && has_layer new (f rule.second)) (has-alike old new rule.first (f rule.first) first)
+      ∙ ap (λ b. has_layer old rule.first && b) (has-alike old new rule.second (f rule.second) second),
+)
 
-abbrev pub same_name : List ℕ → List ℕ
+same_name : List ℕ → List ℕ
 same_name name = name
 
-abbrev pub with_names : (List ℕ → List ℕ) → Rule → Rule
-with_names f rule = record rule { first = f rule.first; second = f rule.second }
+-- a rule between layers that does not see an edit
+layers-unseen : (content : Content) (edit : Edit) (rule : LayerRule) → IsWellFormed content → first_refusal (checks content edit) ≡ None → has_said content (OfLayers rule) ≡ true
+    → sees_said edit (OfLayers rule) ≡ false → SaidAlike content (effect content edit) (OfLayers rule) (OfLayers rule)
+unfolding same_name
+layers-unseen content edit rule fine h there unseen =
+    let two = and_true (has_layer content rule.first) (has_layer content rule.second) there in
+    alike-by content (effect content edit) rule same_name refl (keeps-shapes content edit rule.first fine h two.0 first) (keeps-shapes content edit rule.second fine h two.1 second)
+  where
+    both : (c d : Bool) → (c || d) && (changes_geometries edit || ends_name edit) ≡ false → c || d ≡ true → (changes_geometries edit ≡ false) × (ends_name edit ≡ false)
+    both true d u is = or_false (changes_geometries edit) (ends_name edit) u
+    both false true u is = or_false (changes_geometries edit) (ends_name edit) u
+    both false false u is = cc
+
+    left : (c d : Bool) → c ≡ true → c || d ≡ true
+    left c d is = ap (λ b. b || d) is
+
+    right : (c d : Bool) → d ≡ true → c || d ≡ true
+    right true d is = refl
+    right false d is = is
+
+    first : Tells edit rule.first
+    first is = both (bytes_eq (edit_layer edit) rule.first) (bytes_eq (edit_layer edit) rule.second) unseen (left (bytes_eq (edit_layer edit) rule.first) (bytes_eq (edit_layer edit) rule.second) is)
+
+    second : Tells edit rule.second
+    second is = both (bytes_eq (edit_layer edit) rule.first) (bytes_eq (edit_layer edit) rule.second) unseen (right (bytes_eq (edit_layer edit) rule.first) (bytes_eq (edit_layer edit) rule.second) is)
+
+-- the layer and the column of a rule on values
+pub column-there : (name : List ℕ) (o : Option LayerContent) → has_column_in name o ≡ true → (a : LayerContent) × (column : Column) × (o ≡ Some a) × (column_named a name ≡ Some column)
+column-there name None h = cc
+column-there name (Some a) h = by (column_named a name) refl h
+  where
+    by : (c : Option Column) → column_named a name ≡ c → is_some c ≡ true → (b : LayerContent) × (column : Column) × (Some a ≡ Some b) × (column_named b name ≡ Some column)
+    by None is g = cc
+    by (Some column) is g = (a, column, refl, is)
+
+values-unseen : (content : Content) (edit : Edit) (rule : ValueRule) → IsWellFormed content → first_refusal (checks content edit) ≡ None → has_said content (OfValues rule) ≡ true
+    → sees_said edit (OfValues rule) ≡ false → SaidAlike content (effect content edit) (OfValues rule) (OfValues rule)
+values-unseen content edit rule fine h there unseen =
+    let c = column-there rule.column (layer_of content rule.layer) there in
+    values-alike content (effect content edit) rule c.0 c.1 c.2 c.3 (unseen-kept content rule c.0 c.1 fine c.2 c.3 edit h unseen)
+
+said-unseen : (content : Content) (edit : Edit) (says : Says) → IsWellFormed content → first_refusal (checks content edit) ≡ None → has_said content says ≡ true
+    → sees_said edit says ≡ false → SaidAlike content (effect content edit) says says
+said-unseen content edit (OfLayers rule) fine h there unseen = layers-unseen content edit rule fine h there unseen
+said-unseen content edit (OfValues rule) fine h there unseen = values-unseen content edit rule fine h there unseen
+
+abbrev pub same_rule : Rule → Rule
+same_rule rule = rule
 
 unseen-alike : (content : Content) (edit : Edit) (rules : List Rule) → IsWellFormed content → first_refusal (checks content edit) ≡ None
-    → list_all (has_layers content) rules ≡ true → IsUnseen rules edit → AllByRecursion (λ rule. IsAlike content (effect content edit) rule (with_names same_name rule)) rules
-unseen-alike content edit [] fine h layers unseen = tt
-unseen-alike content edit (rule ∷ rules) fine h layers unseen =
-    let all = and_true (has_layers content rule) (list_all (has_layers content) rules) layers in
-    let two = and_true (has_layer content rule.first) (has_layer content rule.second) all.0 in
-    let name = edit_layer edit in
-    let here : is_of_layer name rule ≡ true → (changes_geometries edit ≡ false) × (ends_name edit ≡ false) =
-    λ is. unseen (or-left (is_of_layer name rule) (names_layer name rules) is) in (
-      alike-by content (effect content edit) rule same_name refl
-          (keeps-shapes content edit rule.first fine h two.0 (λ is. here (or-left (bytes_eq name rule.first) (bytes_eq name rule.second) is)))
-          (keeps-shapes content edit rule.second fine h two.1 (λ is. here (or-right (bytes_eq name rule.first) (bytes_eq name rule.second) is))),
-      unseen-alike content edit rules fine h all.1 (λ is. unseen (or-right (is_of_layer name rule) (names_layer name rules) is)),
+    → list_all (has_named content) rules ≡ true → IsUnseen rules edit → AllByRecursion (λ rule. IsAlike content (effect content edit) rule (same_rule rule)) rules
+unseen-alike content edit [] fine h there unseen = tt
+unseen-alike content edit (rule ∷ rules) fine h there unseen =
+    let all = and_true (has_named content rule) (list_all (has_named content) rules) there in
+    let no = or_false (sees edit rule) (is_seen edit rules) unseen in
+    let said = said-unseen content edit rule.says fine h all.0 no.0 in (
+      record { breaks = said.0; there = said.1 },
+      unseen-alike content edit rules fine h all.1 no.1,
     )
 
-same-rules : (rules : List Rule) → map (with_names same_name) rules ≡ rules
+same-rules : (rules : List Rule) → map same_rule rules ≡ rules
 same-rules [] = refl
 same-rules (rule ∷ rules) = ap (λ rest. rule ∷ rest) (same-rules rules)
 
@@ -163,7 +211,7 @@ settled-alike : (old new : Content) (f : Rule → Rule) → ((rule : Rule) → (
     → AllByRecursion (λ rule. IsAlike old new rule (f rule)) rules → IsSettled (ruled new (map f rules))
 settled-alike old new f same rules settled all = record {
   named = named-alike f same rules settled.named;
-  layers = layers-alike old new f rules all ∙ settled.layers;
+  there = there-alike old new f rules all ∙ settled.there;
   held = broken-alike old new f 0 rules all ∙ settled.held;
 }
 
@@ -172,28 +220,29 @@ pub unseen-settled : (content : Content) (edit : Edit) (rules : List Rule) → I
     → IsSettled (ruled content rules) → IsUnseen rules edit → IsSettled (ruled (effect content edit) rules)
 unseen-settled content edit rules fine h held unseen =
     subst (λ rs. IsSettled (ruled (effect content edit) rs)) (same-rules rules)
-    (settled-alike content (effect content edit) (with_names same_name) (λ rule. refl) rules held (unseen-alike content edit rules fine h held.layers unseen))
+    (settled-alike content (effect content edit) same_rule (λ rule. refl) rules held (unseen-alike content edit rules fine h held.there unseen))
 
 -- and such an edit leaves them as they are
-not-named : (name new_name : List ℕ) (rules : List Rule) → names_layer name rules ≡ false → map (with_renamed name new_name) rules ≡ rules
+not-named : (name new_name : List ℕ) (rules : List Rule) → is_seen (RenameLayer name new_name) rules ≡ false → map (with_renamed name new_name) rules ≡ rules
 not-named name new_name [] h = refl
 not-named name new_name (rule ∷ rules) h =
-    let both = or_false (is_of_layer name rule) (names_layer name rules) h in
-    let two = or_false (bytes_eq name rule.first) (bytes_eq name rule.second) both.0 in
-    ap (λ (b : Bool). let r : Rule = record rule { first = if b then new_name else rule.first; second = renamed name new_name rule.second } in r ∷ map (with_renamed name new_name) rules) two.0
-    ∙ ap (λ (b : Bool). let r : Rule = record rule { first = rule.first; second = if b then new_name else rule.second } in r ∷ map (with_renamed name new_name) rules) two.1
+    let both = or_false (sees (RenameLayer name new_name) rule) (is_seen (RenameLayer name new_name) rules) h in
+    ap (λ says. let r : Rule = record rule { says = says } in r ∷ map (with_renamed name new_name) rules) (said rule.says both.0)
     ∙ ap (λ rest. rule ∷ rest) (not-named name new_name rules both.1)
   where
-    or_false : (a b : Bool) → a || b ≡ false → (a ≡ false) × (b ≡ false)
-    or_false true b h = cc
-    or_false false b h = (refl, h)
+    and_false : (b : Bool) → b && true ≡ false → b ≡ false
+    and_false true g = cc
+    and_false false g = refl
+
+    said : (says : Says) → sees_said (RenameLayer name new_name) says ≡ false → renamed_said name new_name says ≡ says
+    said (OfLayers r) g =
+        let two = or_false (bytes_eq name r.first) (bytes_eq name r.second) (and_false (bytes_eq name r.first || bytes_eq name r.second) g) in
+        ap (λ (b : Bool). let l : LayerRule = record r { first = if b then new_name else r.first; second = renamed name new_name r.second } in OfLayers l) two.0
+        ∙ ap (λ (b : Bool). let l : LayerRule = record r { first = r.first; second = if b then new_name else r.second } in OfLayers l) two.1
+    said (OfValues r) g = ap (λ (b : Bool). let v : ValueRule = record r { layer = if b then new_name else r.layer } in OfValues v) (and_false (bytes_eq name r.layer) g)
 
 pub unseen-rules : (edit : Edit) (rules : List Rule) → IsUnseen rules edit → rules_after rules (OfEdit edit) ≡ rules
-unseen-rules (RenameLayer name new_name) rules unseen = by (names_layer name rules) refl
-  where
-    by : (t : Bool) → names_layer name rules ≡ t → map (with_renamed name new_name) rules ≡ rules
-    by false is = not-named name new_name rules is
-    by true is = let no : true ≡ false = (unseen is).1 in cc
+unseen-rules (RenameLayer name new_name) rules unseen = not-named name new_name rules unseen
 unseen-rules (AddLayer name kind) rules unseen = refl
 unseen-rules (DropLayer name) rules unseen = refl
 unseen-rules (MoveLayer name place) rules unseen = refl
@@ -233,14 +282,33 @@ renamed-one content n n' f s none first second = by (bytes_eq n f) refl (bytes_e
         turned n' f (absent-apart content n' f none first) ∙ sym (turned s f (subst (λ m. bytes_eq m f ≡ false) (same-names n s so) is))
     by false is false so = refl
 
-renamed-alike : (content : Content) (n n' : List ℕ) (layer : LayerContent) (rules : List Rule) → layer_of content n ≡ Some layer → layer_of content n' ≡ None → list_all (has_layers content) rules ≡ true
+-- a layer that is there is found under its new name, if it is the one
+renamed-layer : (content : Content) (n n' : List ℕ) (layer : LayerContent) (name : List ℕ) → layer_of content n ≡ Some layer → layer_of content n' ≡ None → has_layer content name ≡ true
+    → layer_of (renamed_at (place_of content n) n' content) (renamed n n' name) ≡ layer_of content name
+renamed-layer content n n' layer name found none there = by (bytes_eq n name) refl
+  where
+    by : (t : Bool) → bytes_eq n name ≡ t → layer_of (renamed_at (place_of content n) n' content) (if t then n' else name) ≡ layer_of content name
+    by true is = layer_of-renamed content n n' layer found none ∙ sym found ∙ ap (layer_of content) (same-names n name is)
+    by false is = layer_of-renamed-other content n n' name layer found is (absent-apart content n' name none there)
+
+renamed-said : (content : Content) (n n' : List ℕ) (layer : LayerContent) (says : Says) → layer_of content n ≡ Some layer → layer_of content n' ≡ None → has_said content says ≡ true
+    → SaidAlike content (renamed_at (place_of content n) n' content) says (renamed_said n n' says)
+renamed-said content n n' layer (OfLayers rule) found none there =
+    let two = and_true (has_layer content rule.first) (has_layer content rule.second) there in
+    alike-by content (renamed_at (place_of content n) n' content) rule (renamed n n') (renamed-one content n n' rule.first rule.second none two.0 two.1)
+    (renamed-shapes content n n' layer rule.first found none two.0) (renamed-shapes content n n' layer rule.second found none two.1)
+renamed-said content n n' layer (OfValues rule) found none there =
+    let c = column-there rule.column (layer_of content rule.layer) there in
+    let same = renamed-layer content n n' layer rule.layer found none (ap is_some c.2) in
+    (ap (break_on rule) same, ap (has_column_in rule.column) same)
+
+renamed-alike : (content : Content) (n n' : List ℕ) (layer : LayerContent) (rules : List Rule) → layer_of content n ≡ Some layer → layer_of content n' ≡ None → list_all (has_named content) rules ≡ true
     → AllByRecursion (λ rule. IsAlike content (renamed_at (place_of content n) n' content) rule (with_renamed n n' rule)) rules
-renamed-alike content n n' layer [] found none layers = tt
-renamed-alike content n n' layer (rule ∷ rules) found none layers =
-    let all = and_true (has_layers content rule) (list_all (has_layers content) rules) layers in
-    let two = and_true (has_layer content rule.first) (has_layer content rule.second) all.0 in (
-      alike-by content (renamed_at (place_of content n) n' content) rule (renamed n n') (renamed-one content n n' rule.first rule.second none two.0 two.1)
-          (renamed-shapes content n n' layer rule.first found none two.0) (renamed-shapes content n n' layer rule.second found none two.1),
+renamed-alike content n n' layer [] found none there = tt
+renamed-alike content n n' layer (rule ∷ rules) found none there =
+    let all = and_true (has_named content rule) (list_all (has_named content) rules) there in
+    let said = renamed-said content n n' layer rule.says found none all.0 in (
+      record { breaks = said.0; there = said.1 },
       renamed-alike content n n' layer rules found none all.1,
     )
 
@@ -253,11 +321,11 @@ renamed-settled content n n' rules h held =
     let third = passed (not (has_layer content n')) LayerExists [] second.1 in
     let found = there_from_test (layer_of content n) first.0 in
     let none = absent_from_not (layer_of content n') third.0 in
-    settled-alike content (renamed_at (place_of content n) n' content) (with_renamed n n') (λ rule. refl) rules held (renamed-alike content n n' found.0 rules found.1 none held.layers)
+    settled-alike content (renamed_at (place_of content n) n' content) (with_renamed n n') (λ rule. refl) rules held (renamed-alike content n n' found.0 rules found.1 none held.there)
 
 -- ---- a content in which rules hold is no reason to refuse
 
 pub settled-ok : (ruled : Ruled) → IsSettled ruled → settled ruled ≡ Ok ruled
 settled-ok ruled held =
-    let failed : Result Ruled Refusal = Err LayerRuled in
-    ap (λ b. if b then unless_broken ruled (first_broken ruled.content ruled.rules) else failed) held.layers ∙ ap (unless_broken ruled) held.held
+    let failed : Result Ruled Refusal = Err (why_missing ruled.content ruled.rules) in
+    ap (λ b. if b then unless_broken ruled (first_broken ruled.content ruled.rules) else failed) held.there ∙ ap (unless_broken ruled) held.held

@@ -13,14 +13,13 @@ use Rattle.sf_changes.specs.Changes.{Change, OfEdit, OfGroup}
 use Rattle.sf_rules.specs.declared.rule.Rule.{Rule}
 use Rattle.sf_rules.specs.Rules.{break_of, broken_or, first_broken}
 use Rattle.sf_ruled_store.specs.declared.refusal.Refusal.{Refusal}
-use Rattle.sf_ruled_store.specs.declared.refusal.Refusal.TheVariants.{LayerRuled}
-use Rattle.sf_ruled_store.specs.Ruled.{OfChange, AddRule, DropRule, Ruled, added, after_change, edit_led, group_led, has_layers, place_of_rule, ruled_step, rules_after, settled, unless_broken, with_rule, without_rule}
+use Rattle.sf_ruled_store.specs.Ruled.{OfChange, AddRule, DropRule, Ruled, added, after_change, edit_led, group_led, has_named, place_of_rule, ruled_step, rules_after, settled, unless_broken, why_missing, with_rule, without_rule}
 use Rattle.sf_ruled_store.proofs.RuledLaws.{AddsOr, Adds, Refuses, adds, unless-kept}
 
 settled-same : (ruled new : Ruled) → settled ruled ≡ Ok new → ruled ≡ new
-settled-same ruled new h = by (list_all (has_layers ruled.content) ruled.rules) h
+settled-same ruled new h = by (list_all (has_named ruled.content) ruled.rules) h
   where
-    by : (t : Bool) → (if t then unless_broken ruled (first_broken ruled.content ruled.rules) else Err LayerRuled) ≡ Ok new → ruled ≡ new
+    by : (t : Bool) → (if t then unless_broken ruled (first_broken ruled.content ruled.rules) else Err (why_missing ruled.content ruled.rules)) ≡ Ok new → ruled ≡ new
     by true g = (unless-kept ruled new (first_broken ruled.content ruled.rules) g).1
     by false g = cc
 

@@ -2,6 +2,7 @@ pub mod RuledLaws
 pub mod NameLaws
 pub mod RuleNames
 pub mod ShapeLaws
+pub mod SightLaws
 pub mod EditLaws
 pub mod CallLaws
 pub mod TurnLaws

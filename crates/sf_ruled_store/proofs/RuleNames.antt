@@ -16,8 +16,7 @@ use Rattle.sf_rules.specs.Rules.{first_broken}
 use Rattle.sf_ruled_store.specs.declared.edits.Edited.{Edited}
 use Rattle.sf_ruled_store.specs.Outcomes.{ruled}
 use Rattle.sf_ruled_store.specs.declared.refusal.Refusal.{Refusal}
-use Rattle.sf_ruled_store.specs.declared.refusal.Refusal.TheVariants.{LayerRuled}
-use Rattle.sf_ruled_store.specs.Ruled.{OfChange, Ruled, after_change, change_led, has_layers, has_rule, rules_after, rules_max, ruled_step, unless_broken, with_renamed}
+use Rattle.sf_ruled_store.specs.Ruled.{OfChange, Ruled, after_change, change_led, has_named, has_rule, rules_after, rules_max, ruled_step, unless_broken, why_missing, with_renamed}
 use Rattle.sf_ruled_store.specs.Undos.{AreNamed, IsEdited, IsSettled}
 use Rattle.sf_ruled_store.proofs.NameLaws.{turned}
 use Rattle.sf_ruled_store.proofs.RuledLaws.{all-removed}
@@ -133,16 +132,16 @@ change-settled old new change held h = by (change_led old.content change) h
     by : (r : Result Content Refusal) → after_change old change r ≡ Ok new → IsSettled new
     by (Err refusal) g = cc
     by (Ok content) g =
-        inner (list_all (has_layers content) (rules_after old.rules change)) refl (first_broken content (rules_after old.rules change)) refl g
+        inner (list_all (has_named content) (rules_after old.rules change)) refl (first_broken content (rules_after old.rules change)) refl g
       where
         next : Ruled
         next = record { content = content; rules = rules_after old.rules change }
 
-        inner : (t : Bool) → list_all (has_layers content) (rules_after old.rules change) ≡ t → (o : Option Broken) → first_broken content (rules_after old.rules change) ≡ o
-            → (if t then unless_broken next o else Err LayerRuled) ≡ Ok new → IsSettled new
+        inner : (t : Bool) → list_all (has_named content) (rules_after old.rules change) ≡ t → (o : Option Broken) → first_broken content (rules_after old.rules change) ≡ o
+            → (if t then unless_broken next o else Err (why_missing next.content next.rules)) ≡ Ok new → IsSettled new
         inner true is None none k =
             let same : next ≡ new = cc in
-            subst IsSettled same (record { named = named-after old.rules change held.named; layers = is; held = none })
+            subst IsSettled same (record { named = named-after old.rules change held.named; there = is; held = none })
         inner true is (Some broken) none k = cc
         inner false is o none k = cc
 

@@ -11,13 +11,16 @@ use Rattle.sf_steps.specs.Steps.{step}
 use Rattle.sf_features.specs.Names.{is_name}
 use Rattle.sf_steps.specs.declared.refusal.Refusal.{Refusal as EditRefusal}
 use Rattle.sf_ruled_store.specs.declared.refusal.Refusal.{Refusal}
-use Rattle.sf_ruled_store.specs.declared.refusal.Refusal.TheVariants.{RuleBroken, RuleExists, LayerRuled, BadName, NoLayer, TooManyRules}
+use Rattle.sf_ruled_store.specs.declared.refusal.Refusal.TheVariants.{RuleBroken, RuleExists, ColumnRuled, LayerRuled, BadName, NoLayer, NoColumn, TooManyRules}
+use Rattle.sf_layers.specs.Content.{LayerContent, layer_of}
 use Rattle.sf_rules.specs.declared.rule.Rule.{Rule}
+use Rattle.sf_rules.specs.declared.rule.Says.{Says}
+use Rattle.sf_rules.specs.declared.rule.Says.TheVariants.{OfLayers, OfValues}
 use Rattle.sf_rules.specs.declared.breaks.Break.{Break}
 use Rattle.sf_rules.specs.declared.breaks.Broken.{Broken}
-use Rattle.sf_rules.specs.Holds.{HasLayers, Holds, IsBrokenBy}
+use Rattle.sf_rules.specs.Holds.{HasColumn, HasNamed, HasSaid, Holds, IsBrokenBy}
 use Rattle.sf_rules.specs.Rules.{break_of, broken_or, first_broken}
-use Rattle.sf_ruled_store.specs.Ruled.{OfChange, AddRule, DropRule, Ruled, added, after_change, change_led, dropped, edit_led, group_led, has_layers, has_rule, place_of_rule, without_rule, rules_after, rules_max, settled, unless_broken, with_rule}
+use Rattle.sf_ruled_store.specs.Ruled.{OfChange, AddRule, DropRule, Ruled, added, after_change, change_led, dropped, edit_led, group_led, has_column_in, has_layers_of, has_named, has_rule, has_said, place_of_rule, without_rule, rules_after, rules_max, settled, unless_broken, why_missing, with_rule}
 use Rattle.sf_ruled_store.specs.Laws.{IsKept, IsRefusedRightly, RefusalsNameBreaks, RuledStepsKeepRules}
 use Rattle.sf_ruled_store.specs.Undos.{IsSettled}
 use Rattle.sf_rules.proofs.JoinedLists.{each-append}
@@ -32,16 +35,23 @@ not_back : (b : Bool) → not b ≡ false → b ≡ true
 not_back true h = refl
 not_back false h = cc
 
-all-layers : (content : Content) (rules : List Rule) → list_all (has_layers content) rules ≡ true → AllByRecursion (HasLayers content) rules
-all-layers content [] h = tt
-all-layers content (rule ∷ rules) h =
-    let both = and_true (has_layers content rule) (list_all (has_layers content) rules) h in
-    let layers = and_true (has_layer content rule.first) (has_layer content rule.second) both.0 in
-    ((layers.0, layers.1), all-layers content rules both.1)
+column-in : (name : List ℕ) (o : Option LayerContent) → has_column_in name o ≡ true → HasColumn name o
+column-in name None h = cc
+column-in name (Some layer) h = h
+
+said-there : (content : Content) (says : Says) → has_said content says ≡ true → HasSaid content says
+said-there content (OfLayers rule) h = let both = and_true (has_layer content rule.first) (has_layer content rule.second) h in (both.0, both.1)
+said-there content (OfValues rule) h = column-in rule.column (layer_of content rule.layer) h
+
+all-there : (content : Content) (rules : List Rule) → list_all (has_named content) rules ≡ true → AllByRecursion (HasNamed content) rules
+all-there content [] h = tt
+all-there content (rule ∷ rules) h =
+    let both = and_true (has_named content rule) (list_all (has_named content) rules) h in
+    (said-there content rule.says both.0, all-there content rules both.1)
 
 -- rules of which it is computed that they hold, do so over the plane
 pub is_settled-kept : (ruled : Ruled) → IsWellFormed ruled.content → IsSettled ruled → IsKept ruled
-is_settled-kept ruled fine s = (rules_are_over_the_plane ruled.content ruled.rules fine (all-layers ruled.content ruled.rules s.layers)).0 s.held
+is_settled-kept ruled fine s = (rules_are_over_the_plane ruled.content ruled.rules fine (all-there ruled.content ruled.rules s.there)).0 s.held
 
 -- ---- accepted steps
 
@@ -50,14 +60,14 @@ unless-kept ruled new None h = let same : ruled ≡ new = cc in (refl, same)
 unless-kept ruled new (Some broken) h = cc
 
 settled-kept : (ruled new : Ruled) → settled ruled ≡ Ok new → IsWellFormed new.content → IsKept new
-settled-kept ruled new h fine = by (list_all (has_layers ruled.content) ruled.rules) refl h
+settled-kept ruled new h fine = by (list_all (has_named ruled.content) ruled.rules) refl h
   where
-    by : (t : Bool) → list_all (has_layers ruled.content) ruled.rules ≡ t → (if t then unless_broken ruled (first_broken ruled.content ruled.rules) else Err LayerRuled) ≡ Ok new → IsKept new
+    by : (t : Bool) → list_all (has_named ruled.content) ruled.rules ≡ t → (if t then unless_broken ruled (first_broken ruled.content ruled.rules) else Err (why_missing ruled.content ruled.rules)) ≡ Ok new → IsKept new
     by false is g = cc
     by true is g =
         let k = unless-kept ruled new (first_broken ruled.content ruled.rules) g in
         subst IsKept k.1
-        ((rules_are_over_the_plane ruled.content ruled.rules (subst (λ (r : Ruled). IsWellFormed r.content) (sym k.1) fine) (all-layers ruled.content ruled.rules is)).0 k.0)
+        ((rules_are_over_the_plane ruled.content ruled.rules (subst (λ (r : Ruled). IsWellFormed r.content) (sym k.1) fine) (all-there ruled.content ruled.rules is)).0 k.0)
 
 change-kept : (old new : Ruled) (change : Change) (r : Result Content Refusal) → after_change old change r ≡ Ok new → IsWellFormed new.content → IsKept new
 change-kept old new change (Err refusal) h fine = cc
@@ -68,7 +78,7 @@ pub record WasAdded (old : Ruled) (rule : Rule) (result : Result Ruled Refusal) 
   pub named : is_name rule.name ≡ true
   pub other : has_rule rule.name old.rules ≡ false
   pub few : nat_lt (length old.rules) rules_max ≡ true
-  pub layers : HasLayers old.content rule
+  pub there : has_named old.content rule ≡ true
   pub last : result ≡ unless_broken (with_rule old rule) (broken_or (length old.rules) (break_of old.content rule) None)
 
 -- ... or is refused for no rule that is broken
@@ -79,40 +89,37 @@ pub data AddsOr (old : Ruled) (rule : Rule) (result : Result Ruled Refusal) : Ty
 pub adds : (old : Ruled) (rule : Rule) → AddsOr old rule (added old rule)
 adds old rule = first (is_name rule.name) refl
   where
+    last : Result Ruled Refusal
+    last = unless_broken (with_rule old rule) (broken_or (length old.rules) (break_of old.content rule) None)
+
     fifth : (t : Bool) → nat_lt (length old.rules) rules_max ≡ t → is_name rule.name ≡ true → has_rule rule.name old.rules ≡ false
-        → has_layer old.content rule.first ≡ true → has_layer old.content rule.second ≡ true
-        → AddsOr old rule (if not t then Err TooManyRules else unless_broken (with_rule old rule) (broken_or (length old.rules) (break_of old.content rule) None))
-    fifth false is n o h k = Refuses (λ new g. cc) (λ broken g. cc)
-    fifth true is n o h k = Adds (record { named = n; other = o; few = is; layers = (h, k); last = refl })
+        → has_named old.content rule ≡ true → AddsOr old rule (if not t then Err TooManyRules else last)
+    fifth false is n o h = Refuses (λ new g. cc) (λ broken g. cc)
+    fifth true is n o h = Adds (record { named = n; other = o; few = is; there = h; last = refl })
 
-    fourth : (t : Bool) → has_layer old.content rule.second ≡ t → is_name rule.name ≡ true → has_rule rule.name old.rules ≡ false
-        → has_layer old.content rule.first ≡ true
-        → AddsOr old rule (if not t then Err NoLayer else if not (nat_lt (length old.rules) rules_max) then Err TooManyRules
-        else unless_broken (with_rule old rule) (broken_or (length old.rules) (break_of old.content rule) None))
-    fourth false is n o h = Refuses (λ new g. cc) (λ broken g. cc)
-    fourth true is n o h = fifth (nat_lt (length old.rules) rules_max) refl n o h is
+    fourth : (t : Bool) → has_named old.content rule ≡ t → is_name rule.name ≡ true → has_rule rule.name old.rules ≡ false
+        → AddsOr old rule (if not t then Err NoColumn else if not (nat_lt (length old.rules) rules_max) then Err TooManyRules else last)
+    fourth false is n o = Refuses (λ new g. cc) (λ broken g. cc)
+    fourth true is n o = fifth (nat_lt (length old.rules) rules_max) refl n o is
 
-    third : (t : Bool) → has_layer old.content rule.first ≡ t → is_name rule.name ≡ true → has_rule rule.name old.rules ≡ false
-        → AddsOr old rule (if not t then Err NoLayer else if not (has_layer old.content rule.second) then Err NoLayer
-        else if not (nat_lt (length old.rules) rules_max) then Err TooManyRules
-        else unless_broken (with_rule old rule) (broken_or (length old.rules) (break_of old.content rule) None))
-    third false is n o = Refuses (λ new g. cc) (λ broken g. cc)
-    third true is n o = fourth (has_layer old.content rule.second) refl n o is
+    third : (t : Bool) → is_name rule.name ≡ true → has_rule rule.name old.rules ≡ false
+        → AddsOr old rule (if not t then Err NoLayer else if not (has_named old.content rule) then Err NoColumn
+        else if not (nat_lt (length old.rules) rules_max) then Err TooManyRules else last)
+    third false n o = Refuses (λ new g. cc) (λ broken g. cc)
+    third true n o = fourth (has_named old.content rule) refl n o
 
     second : (t : Bool) → has_rule rule.name old.rules ≡ t → is_name rule.name ≡ true
-        → AddsOr old rule (if t then Err RuleExists else if not (has_layer old.content rule.first) then Err NoLayer
-        else if not (has_layer old.content rule.second) then Err NoLayer
-        else if not (nat_lt (length old.rules) rules_max) then Err TooManyRules
-        else unless_broken (with_rule old rule) (broken_or (length old.rules) (break_of old.content rule) None))
+        → AddsOr old rule (if t then Err RuleExists else if not (has_layers_of old.content rule) then Err NoLayer
+        else if not (has_named old.content rule) then Err NoColumn
+        else if not (nat_lt (length old.rules) rules_max) then Err TooManyRules else last)
     second true is n = Refuses (λ new g. cc) (λ broken g. cc)
-    second false is n = third (has_layer old.content rule.first) refl n is
+    second false is n = third (has_layers_of old.content rule) n is
 
     first : (t : Bool) → is_name rule.name ≡ t
         → AddsOr old rule (if not t then Err BadName else if has_rule rule.name old.rules then Err RuleExists
-        else if not (has_layer old.content rule.first) then Err NoLayer
-        else if not (has_layer old.content rule.second) then Err NoLayer
-        else if not (nat_lt (length old.rules) rules_max) then Err TooManyRules
-        else unless_broken (with_rule old rule) (broken_or (length old.rules) (break_of old.content rule) None))
+        else if not (has_layers_of old.content rule) then Err NoLayer
+        else if not (has_named old.content rule) then Err NoColumn
+        else if not (nat_lt (length old.rules) rules_max) then Err TooManyRules else last)
     first false is = Refuses (λ new g. cc) (λ broken g. cc)
     first true is = second (has_rule rule.name old.rules) refl is
 
@@ -127,7 +134,7 @@ added-kept old new rule fine kept h = by (adds old rule)
     by (Refuses accepted broke) = absurd (accepted new h)
     by (Adds was) =
         let k = unless-kept (with_rule old rule) new (broken_or (length old.rules) (break_of old.content rule) None) (sym was.last ∙ h) in
-        let holds : Holds old.content rule = (rule-over-the-plane old.content rule fine was.layers).0 (only-none (length old.rules) (break_of old.content rule) k.0) in
+        let holds : Holds old.content rule = (rule-over-the-plane old.content rule fine (said-there old.content rule.says was.there)).0 (only-none (length old.rules) (break_of old.content rule) k.0) in
         subst IsKept k.1 (each-append (Holds old.content) old.rules (rule ∷ []) kept (holds, tt))
 
 -- what holds of all rules holds of all but one
@@ -166,10 +173,14 @@ unless-refused ruled None broken h = cc
 unless-refused ruled (Some found) broken h = let same : found ≡ broken = cc in ap (λ b. Some b) same
 
 settled-refused : (ruled : Ruled) (broken : Broken) → settled ruled ≡ Err (RuleBroken broken) → first_broken ruled.content ruled.rules ≡ Some broken
-settled-refused ruled broken h = by (list_all (has_layers ruled.content) ruled.rules) h
+settled-refused ruled broken h = by (list_all (has_named ruled.content) ruled.rules) h
   where
-    by : (t : Bool) → (if t then unless_broken ruled (first_broken ruled.content ruled.rules) else Err LayerRuled) ≡ Err (RuleBroken broken) → first_broken ruled.content ruled.rules ≡ Some broken
-    by false g = cc
+    why : (t : Bool) → ◌≡◌ {A = Result Ruled Refusal} (Err (if t then ColumnRuled else LayerRuled)) (Err (RuleBroken broken)) → ⊥
+    why true g = cc
+    why false g = cc
+
+    by : (t : Bool) → (if t then unless_broken ruled (first_broken ruled.content ruled.rules) else Err (why_missing ruled.content ruled.rules)) ≡ Err (RuleBroken broken) → first_broken ruled.content ruled.rules ≡ Some broken
+    by false g = absurd (why (list_all (has_layers_of ruled.content) ruled.rules) g)
     by true g = unless-refused ruled (first_broken ruled.content ruled.rules) broken g
 
 -- no refusal of a change itself is that a rule is broken

@@ -7,11 +7,12 @@ use Rattle.sf_layers.specs.Content.{Content, LayerContent, has_layer, layer_of}
 use Rattle.sf_rules.specs.Asked.{Ask}
 use Rattle.sf_rules.specs.Asked.{is_pair}
 use Rattle.sf_rules.specs.declared.rule.Rule.{Rule}
+use Rattle.sf_rules.specs.declared.rule.LayerRule.{LayerRule}
 use Rattle.sf_rules.specs.declared.rule.Form.{Form}
 use Rattle.sf_rules.specs.declared.rule.Form.TheVariants.{Never, Each}
 use Rattle.sf_rules.specs.declared.breaks.Break.{Break}
-use Rattle.sf_rules.specs.Rules.{alone_break, break_by, break_of, breaks_between, broken_from, broken_or, first_of, of_one, pair_break}
-use Rattle.sf_ruled_store.specs.Ruled.{has_layers}
+use Rattle.sf_rules.specs.Rules.{alone_break, break_between, break_by, break_of, breaks_between, broken_from, broken_or, first_of, of_one, pair_break}
+use Rattle.sf_ruled_store.specs.Ruled.{has_named}
 
 abbrev pub Features : Type 0
 Features = List (ℕ × FeatureContent)
@@ -102,9 +103,9 @@ same-breaks form one one' ask first first' second second' same firsts seconds =
     ∙ sym (breaks-in form one ask first second)
 
 -- a rule of layers with the same shapes, whatever their names, is broken by the same
-pub break-alike : (old new : Content) (rule : Rule) (first second : List ℕ) → bytes_eq first second ≡ of_one rule
+pub break-alike : (old new : Content) (rule : LayerRule) (first second : List ℕ) → bytes_eq first second ≡ of_one rule
     → shapes_in new first ≡ shapes_in old rule.first → shapes_in new second ≡ shapes_in old rule.second
-    → break_of new (record rule { first = first; second = second }) ≡ break_of old rule
+    → break_between new (record rule { first = first; second = second }) ≡ break_between old rule
 break-alike old new rule first second one firsts seconds =
     by (layer_of old rule.first) (layer_of new first) (layer_of old rule.second) (layer_of new second) firsts seconds
   where
@@ -136,10 +137,10 @@ has-alike old new name name' h = by (layer_of old name) (layer_of new name') h
 
 -- ---- several rules
 
--- a rule in a new content is broken as another one was in the old, and its layers are there as they were
+-- a rule in a new content is broken as another one was in the old, and what it names is there as it was
 pub record IsAlike (old new : Content) (rule rule' : Rule) : Type 0 where
   pub breaks : break_of new rule' ≡ break_of old rule
-  pub layers : has_layers new rule' ≡ has_layers old rule
+  pub there : has_named new rule' ≡ has_named old rule
 
 pub broken-alike : (old new : Content) (f : Rule → Rule) (place : ℕ) (rules : List Rule) → AllByRecursion (λ rule. IsAlike old new rule (f rule)) rules
     → broken_from place new (map f rules) ≡ broken_from place old rules
@@ -148,9 +149,9 @@ broken-alike old new f place (rule ∷ rules) all =
     ap (λ o. broken_or place o (broken_from (place + 1) new (map f rules))) all.0.breaks
     ∙ ap (broken_or place (break_of old rule)) (broken-alike old new f (place + 1) rules all.1)
 
-pub layers-alike : (old new : Content) (f : Rule → Rule) (rules : List Rule) → AllByRecursion (λ rule. IsAlike old new rule (f rule)) rules
-    → list_all (has_layers new) (map f rules) ≡ list_all (has_layers old) rules
-layers-alike old new f [] all = refl
-layers-alike old new f (rule ∷ rules) all =
-    ap (λ b. b && list_all (has_layers new) (map f rules)) all.0.layers
-    ∙ ap (λ b. has_layers old rule && b) (layers-alike old new f rules all.1)
+pub there-alike : (old new : Content) (f : Rule → Rule) (rules : List Rule) → AllByRecursion (λ rule. IsAlike old new rule (f rule)) rules
+    → list_all (has_named new) (map f rules) ≡ list_all (has_named old) rules
+there-alike old new f [] all = refl
+there-alike old new f (rule ∷ rules) all =
+    ap (λ b. b && list_all (has_named new) (map f rules)) all.0.there
+    ∙ ap (λ b. has_named old rule && b) (there-alike old new f rules all.1)

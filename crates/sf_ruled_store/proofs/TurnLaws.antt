@@ -17,7 +17,7 @@ use Rattle.sf_rules.proofs.JoinedLists.{each-append}
 use Rattle.sf_ruled_store.specs.declared.undo.Undo.TheVariants as undos
 use Rattle.sf_ruled_store.specs.declared.redo.Redo.TheVariants as redos
 use Rattle.sf_ruled_store.specs.Outcomes.{ruled}
-use Rattle.sf_ruled_store.specs.Ruled.{AddRule, DropRule, Ruled, has_layers, ruled_step, with_rule}
+use Rattle.sf_ruled_store.specs.Ruled.{AddRule, DropRule, Ruled, has_named, ruled_step, with_rule}
 use Rattle.sf_ruled_store.specs.Undos.{AreNamed, IsLed, IsSettled, MakesAgainUnder, TakesBackUnder}
 use Rattle.sf_ruled_store.proofs.RuleNames.{named-added, named-removed}
 use Rattle.sf_ruled_store.proofs.RuledLaws.{AddsOr, Adds, Refuses, adds, all-removed, only-none, unless-kept}
@@ -34,22 +34,22 @@ and_of true b h k = k
 and_of false b h k = cc
 
 abbrev pub IsHeld : Content → Rule → Type 0
-IsHeld content rule = (has_layers content rule ≡ true) × (break_of content rule ≡ None)
+IsHeld content rule = (has_named content rule ≡ true) × (break_of content rule ≡ None)
 
-held-from : (place : ℕ) (content : Content) (rules : List Rule) → list_all (has_layers content) rules ≡ true → broken_from place content rules ≡ None → AllByRecursion (IsHeld content) rules
+held-from : (place : ℕ) (content : Content) (rules : List Rule) → list_all (has_named content) rules ≡ true → broken_from place content rules ≡ None → AllByRecursion (IsHeld content) rules
 held-from place content [] layers none = tt
 held-from place content (rule ∷ rules) layers none =
-    let all = and_true (has_layers content rule) (list_all (has_layers content) rules) layers in
+    let all = and_true (has_named content rule) (list_all (has_named content) rules) layers in
     by (λ g. held-from (place + 1) content rules all.1 g) all.0 (break_of content rule) refl none
   where
-    by : (broken_from (place + 1) content rules ≡ None → AllByRecursion (IsHeld content) rules) → has_layers content rule ≡ true → (o : Option Break) → break_of content rule ≡ o
+    by : (broken_from (place + 1) content rules ≡ None → AllByRecursion (IsHeld content) rules) → has_named content rule ≡ true → (o : Option Break) → break_of content rule ≡ o
         → broken_or place o (broken_from (place + 1) content rules) ≡ None → AllByRecursion (IsHeld content) (rule ∷ rules)
     by later here None is g = ((here, is), later g)
     by later here (Some least) is g = cc
 
-layers-of : (content : Content) (rules : List Rule) → AllByRecursion (IsHeld content) rules → list_all (has_layers content) rules ≡ true
-layers-of content [] all = refl
-layers-of content (rule ∷ rules) all = and_of (has_layers content rule) (list_all (has_layers content) rules) all.0.0 (layers-of content rules all.1)
+there-of : (content : Content) (rules : List Rule) → AllByRecursion (IsHeld content) rules → list_all (has_named content) rules ≡ true
+there-of content [] all = refl
+there-of content (rule ∷ rules) all = and_of (has_named content rule) (list_all (has_named content) rules) all.0.0 (there-of content rules all.1)
 
 none-of : (place : ℕ) (content : Content) (rules : List Rule) → AllByRecursion (IsHeld content) rules → broken_from place content rules ≡ None
 none-of place content [] all = refl
@@ -57,10 +57,10 @@ none-of place content (rule ∷ rules) all =
     ap (λ o. broken_or place o (broken_from (place + 1) content rules)) all.0.1 ∙ none-of (place + 1) content rules all.1
 
 each-held : (content : Content) (rules : List Rule) → IsSettled (ruled content rules) → AllByRecursion (IsHeld content) rules
-each-held content rules settled = held-from 0 content rules settled.layers settled.held
+each-held content rules settled = held-from 0 content rules settled.there settled.held
 
 all-settled : (content : Content) (rules : List Rule) → AreNamed rules → AllByRecursion (IsHeld content) rules → IsSettled (ruled content rules)
-all-settled content rules named all = record { named = named; layers = layers-of content rules all; held = none-of 0 content rules all }
+all-settled content rules named all = record { named = named; there = there-of content rules all; held = none-of 0 content rules all }
 
 -- ---- lists
 
@@ -97,7 +97,7 @@ added-settled content rules rule new settled h = by (adds (ruled content rules) 
         let kept = unless-kept (with_rule (ruled content rules) rule) new (broken_or (length rules) (break_of content rule) None) (sym was.last ∙ h) in
         all-settled content (rules ++ rule ∷ []) (named-added rules rule settled.named was.named was.other was.few)
         (each-append (IsHeld content) rules (rule ∷ []) (each-held content rules settled)
-        ((and_of _ _ was.layers.0 was.layers.1, only-none (length rules) (break_of content rule) kept.0), tt))
+        ((was.there, only-none (length rules) (break_of content rule) kept.0), tt))
 
 pub added-led : (content : Content) (rules after : List Rule) (rule : Rule) → IsSettled (ruled content rules) → after ≡ rules ++ rule ∷ []
     → ruled_step (ruled content rules) (AddRule rule) ≡ Ok (ruled content after) → IsLed (ruled content rules) (ruled_step (ruled content rules) (AddRule rule)) undos.AddedRule (ruled content after)

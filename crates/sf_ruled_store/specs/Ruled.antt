@@ -1,5 +1,5 @@
 -- Contents with the rules that hold in them, and their steps. A step is refused in the order of these checks.
-use Rattle.std.specs.Prelude.{ℕ, Bool, not, ◌&&◌, List, [], ◌∷◌, ◌++◌, length, map, position, remove, is_some, Option, None, Some, Result, Ok, Err, bytes_eq, nat_lt, if◌then◌else◌}
+use Rattle.std.specs.Prelude.{ℕ, Bool, false, not, ◌&&◌, List, [], ◌∷◌, ◌++◌, length, map, position, remove, is_some, Option, None, Some, Result, Ok, Err, bytes_eq, nat_lt, if◌then◌else◌}
 use Rattle.std.specs.List.{list_all}
 use Rattle.sf_changes.specs.Changes.{Change, OfEdit, OfGroup}
 use Rattle.sf_steps.specs.declared.edit.Edit.TheVariants.{RenameLayer}
@@ -9,9 +9,11 @@ use Rattle.sf_groups.specs.Members.{together, Refused}
 use Rattle.sf_features.specs.Names.{is_name}
 use Rattle.sf_steps.specs.declared.refusal.Refusal.{Refusal as EditRefusal}
 use Rattle.sf_ruled_store.specs.declared.refusal.Refusal.{Refusal}
-use Rattle.sf_ruled_store.specs.declared.refusal.Refusal.TheVariants.{ByEdit, ByMember, RuleBroken, NoRule, RuleExists, LayerRuled, BadName, NoLayer, TooManyRules}
-use Rattle.sf_layers.specs.Content.{Content, has_layer}
+use Rattle.sf_ruled_store.specs.declared.refusal.Refusal.TheVariants.{ByEdit, ByMember, RuleBroken, NoRule, RuleExists, LayerRuled, ColumnRuled, BadName, NoLayer, NoColumn, TooManyRules}
+use Rattle.sf_layers.specs.Content.{Content, LayerContent, column_named, has_layer, layer_of}
 use Rattle.sf_rules.specs.declared.rule.Rule.{Rule}
+use Rattle.sf_rules.specs.declared.rule.Says.{Says}
+use Rattle.sf_rules.specs.declared.rule.Says.TheVariants.{OfLayers, OfValues}
 use Rattle.sf_rules.specs.declared.breaks.Broken.{Broken}
 use Rattle.sf_rules.specs.Rules.{break_of, broken_or, first_broken}
 
@@ -51,16 +53,37 @@ place_of_rule name rules = position (λ rule. bytes_eq name rule.name) rules
 abbrev pub has_rule : List ℕ → List Rule → Bool
 has_rule name rules = is_some (place_of_rule name rules)
 
+abbrev pub has_layers_said : Content → Says → Bool
+has_layers_said content (OfLayers rule) = has_layer content rule.first && has_layer content rule.second
+has_layers_said content (OfValues rule) = has_layer content rule.layer
+
 -- whether the layers of a rule are there
-abbrev pub has_layers : Content → Rule → Bool
-has_layers content rule = has_layer content rule.first && has_layer content rule.second
+abbrev pub has_layers_of : Content → Rule → Bool
+has_layers_of content rule = has_layers_said content rule.says
+
+-- whether a layer is there and has the column of a name
+abbrev pub has_column_in : List ℕ → Option LayerContent → Bool
+has_column_in name None = false
+has_column_in name (Some layer) = is_some (column_named layer name)
+
+abbrev pub has_said : Content → Says → Bool
+has_said content (OfLayers rule) = has_layer content rule.first && has_layer content rule.second
+has_said content (OfValues rule) = has_column_in rule.column (layer_of content rule.layer)
+
+-- whether all that a rule names is there: its layers, or its layer and the column
+abbrev pub has_named : Content → Rule → Bool
+has_named content rule = has_said content rule.says
 
 -- the rule with another name for a layer
 abbrev pub renamed : List ℕ → List ℕ → List ℕ → List ℕ
 renamed old new name = if bytes_eq old name then new else name
 
+abbrev pub renamed_said : List ℕ → List ℕ → Says → Says
+renamed_said old new (OfLayers rule) = OfLayers (record rule { first = renamed old new rule.first; second = renamed old new rule.second })
+renamed_said old new (OfValues rule) = OfValues (record rule { layer = renamed old new rule.layer })
+
 abbrev pub with_renamed : List ℕ → List ℕ → Rule → Rule
-with_renamed old new rule = record rule { first = renamed old new rule.first; second = renamed old new rule.second }
+with_renamed old new rule = record rule { says = renamed_said old new rule.says }
 
 -- the rules after a change: those of a layer that is renamed follow it
 abbrev pub rules_after : List Rule → Change → List Rule
@@ -78,12 +101,16 @@ abbrev pub unless_broken : Ruled → Option Broken → Result Ruled Refusal
 unless_broken ruled None = Ok ruled
 unless_broken ruled (Some broken) = Err (RuleBroken broken)
 
--- where the layers of all rules are there, and no rule is broken
+-- why something that rules name can't go: a layer, or else a column
+abbrev pub why_missing : Content → List Rule → Refusal
+why_missing content rules = if list_all (has_layers_of content) rules then ColumnRuled else LayerRuled
+
+-- where all that rules name is there, and no rule is broken
 abbrev pub settled : Ruled → Result Ruled Refusal
 settled ruled =
-    if list_all (has_layers ruled.content) ruled.rules
+    if list_all (has_named ruled.content) ruled.rules
     then unless_broken ruled (first_broken ruled.content ruled.rules)
-    else Err LayerRuled
+    else Err (why_missing ruled.content ruled.rules)
 
 abbrev pub after_change : Ruled → Change → Result Content Refusal → Result Ruled Refusal
 after_change old change (Err refusal) = Err refusal
@@ -98,8 +125,8 @@ abbrev pub added : Ruled → Rule → Result Ruled Refusal
 added old rule =
     if not (is_name rule.name) then Err BadName
     else if has_rule rule.name old.rules then Err RuleExists
-    else if not (has_layer old.content rule.first) then Err NoLayer
-    else if not (has_layer old.content rule.second) then Err NoLayer
+    else if not (has_layers_of old.content rule) then Err NoLayer
+    else if not (has_named old.content rule) then Err NoColumn
     else if not (nat_lt (length old.rules) rules_max) then Err TooManyRules
     else unless_broken (with_rule old rule) (broken_or (length old.rules) (break_of old.content rule) None)
 

@@ -1,11 +1,11 @@
 -- Steps of contents with rules: what takes them back, and what makes them again.
-use Rattle.std.specs.Prelude.{◌≡◌, ◌<◌, ◌≤◌, ◌-◌, ℕ, Bool, true, false, ◌||◌, List, [], ◌∷◌, bytes_eq, insert, length, map, remove, take, None, Ok, Result, IsOk, IsTrue}
+use Rattle.std.specs.Prelude.{◌≡◌, ◌<◌, ◌≤◌, ◌-◌, ℕ, Bool, true, false, ◌&&◌, ◌||◌, List, [], ◌∷◌, bytes_eq, insert, length, map, remove, take, None, Ok, Result, IsOk, IsTrue}
 use Rattle.std.specs.List.{AllByRecursion, list_all, list_any}
 use Rattle.sf_features.specs.Columns.{IsDistinct}
 use Rattle.sf_features.specs.Names.{is_name}
 use Rattle.sf_steps.specs.declared.answer.Answer.{Answer}
 use Rattle.sf_steps.specs.declared.edit.Edit.{Edit}
-use Rattle.sf_steps.specs.declared.edit.Edit.TheVariants.{AddFeature, DeleteFeature, ReplaceGeometry, InsertVertex, MoveVertex, RemoveVertex, DropLayer, RenameLayer}
+use Rattle.sf_steps.specs.declared.edit.Edit.TheVariants.{AddFeature, DeleteFeature, ReplaceGeometry, InsertVertex, MoveVertex, RemoveVertex, SetValue, ClearValue, DropColumn, DropLayer, RenameLayer}
 use Rattle.sf_steps.specs.Steps.{edit_layer, step}
 use Rattle.sf_steps.specs.Inverses.{Fits, described, frees_only}
 use Rattle.sf_groups.specs.declared.member.Member.{Member}
@@ -13,22 +13,17 @@ use Rattle.sf_groups.specs.Members.{together}
 use Rattle.sf_changes.specs.Changes.{FitsRedo, FitsUndo, FreesOnly, OfEdit, OfGroup, TakesNoMemory, redone_by, undone_by}
 use Rattle.sf_changes.specs.declared.redo.Redo.TheVariants as content_redos
 use Rattle.sf_rules.specs.declared.rule.Rule.{Rule}
+use Rattle.sf_rules.specs.declared.rule.Says.{Says}
+use Rattle.sf_rules.specs.declared.rule.Says.TheVariants.{OfLayers, OfValues}
 use Rattle.sf_rules.specs.Rules.{first_broken}
 use Rattle.sf_ruled_store.specs.declared.undo.Undo.{Undo}
 use Rattle.sf_ruled_store.specs.declared.undo.Undo.TheVariants as undos
 use Rattle.sf_ruled_store.specs.declared.redo.Redo.{Redo}
 use Rattle.sf_ruled_store.specs.declared.redo.Redo.TheVariants as redos
 use Rattle.sf_ruled_store.specs.declared.refusal.Refusal.{Refusal}
-use Rattle.sf_ruled_store.specs.Ruled.{OfChange, Ruled, has_layers, rules_max, ruled_step, with_rule}
+use Rattle.sf_ruled_store.specs.Ruled.{OfChange, Ruled, has_named, rules_max, ruled_step, with_rule}
 
--- ---- which rules an edit is a matter of
-
--- whether a rule names a layer
-abbrev pub is_of_layer : List ℕ → Rule → Bool
-is_of_layer name rule = bytes_eq name rule.first || bytes_eq name rule.second
-
-abbrev pub names_layer : List ℕ → List Rule → Bool
-names_layer name rules = list_any (is_of_layer name) rules
+-- ---- which rules see an edit
 
 -- whether an edit puts a geometry into its layer, changes one or removes one
 abbrev pub changes_geometries : Edit → Bool
@@ -40,21 +35,41 @@ changes_geometries (MoveVertex name id part ring index point) = true
 changes_geometries (RemoveVertex name id part ring index) = true
 changes_geometries edit = false
 
+-- whether it changes which features its layer has, or which values they have in the column of a name, or drops that
+abbrev pub changes_column : List ℕ → Edit → Bool
+changes_column column (AddFeature name geometry) = true
+changes_column column (DeleteFeature name id) = true
+changes_column column (SetValue name id other value) = bytes_eq column other
+changes_column column (ClearValue name id other) = bytes_eq column other
+changes_column column (DropColumn name other) = bytes_eq column other
+changes_column column edit = false
+
 -- whether it drops its layer, or gives it another name
 abbrev pub ends_name : Edit → Bool
 ends_name (DropLayer name) = true
 ends_name (RenameLayer name new_name) = true
 ends_name edit = false
 
+abbrev pub sees_said : Edit → Says → Bool
+sees_said edit (OfLayers rule) =
+    (bytes_eq (edit_layer edit) rule.first || bytes_eq (edit_layer edit) rule.second) && (changes_geometries edit || ends_name edit)
+sees_said edit (OfValues rule) = bytes_eq (edit_layer edit) rule.layer && (changes_column rule.column edit || ends_name edit)
+
+-- whether an edit may break a rule, or ends what it names: it is of its layer, and changes what the rule looks at
+abbrev pub sees : Edit → Rule → Bool
+sees edit rule = sees_said edit rule.says
+
+abbrev pub is_seen : Edit → List Rule → Bool
+is_seen edit rules = list_any (sees edit) rules
+
 -- whether it gives its layer another name
 abbrev pub is_renaming : Edit → Bool
 is_renaming (RenameLayer name new_name) = true
 is_renaming edit = false
 
--- no rule sees the edit: it is of a layer that none names, or leaves its name and its geometries as they are
+-- no rule sees the edit
 abbrev pub IsUnseen : List Rule → Edit → Type 0
-IsUnseen rules edit =
-    IsTrue (names_layer (edit_layer edit) rules) → (changes_geometries edit ≡ false) × (ends_name edit ≡ false)
+IsUnseen rules edit = is_seen edit rules ≡ false
 
 -- an edit as the only one of a group
 abbrev pub alone : Edit → List Member
@@ -68,10 +83,10 @@ pub record AreNamed (rules : List Rule) : Type 0 where
   pub named : AllByRecursion (λ rule. IsTrue (is_name rule.name)) rules
   pub distinct : IsDistinct bytes_eq (map (λ rule. rule.name) rules)
 
--- rules are named, their layers are all there, and none is broken
+-- rules are named, all that they name is there, and none is broken
 pub record IsSettled (ruled : Ruled) : Type 0 where
   pub named : AreNamed ruled.rules
-  pub layers : list_all (has_layers ruled.content) ruled.rules ≡ true
+  pub there : list_all (has_named ruled.content) ruled.rules ≡ true
   pub held : first_broken ruled.content ruled.rules ≡ None
 
 -- ---- what takes a step back

@@ -2,8 +2,8 @@
 
 ghost use Rattle.std.specs.Prelude.{◌≡◌, ◌+◌, ◌≤◌, ◌++◌, length, IfErr, IfOk, IsTrue, MatchResult, OnErr, true, vec_capacity};
 ghost use Rattle.sf_changes.specs.Changes.{OfEdit, OfGroup};
+ghost use Rattle.sf_groups.specs.Local.{is_of_features as is_edit_of_features};
 ghost use Rattle.sf_groups.specs.Members.{ids_given};
-ghost use Rattle.sf_steps.specs.Steps.{edit_layer};
 ghost use Rattle.sf_steps.specs.declared.edit.Edit.{Edit as EditOf};
 ghost use Rattle.sf_layers.specs.WellFormed.{IsWellFormed};
 ghost use Rattle.sf_ruled_store.specs.Ruled.{OfChange, ruled_step, rules_after};
@@ -11,7 +11,7 @@ ghost use Rattle.sf_changes.specs.declared.undo.Undo.TheVariants as changes;
 ghost use Rattle.sf_steps.specs.Inverses.{answer_of as inverse_answer};
 ghost use Rattle.sf_ruled_store.specs.declared.undo.Undo.TheVariants as undos;
 ghost use Rattle.sf_ruled_store.specs.Outcomes.{IsRefusedAs, answer_of as answer_of_ids, by_edit as by_edit_of, ruled};
-ghost use Rattle.sf_ruled_store.specs.Undos.{IsEdited, IsGrouped, IsSettled, IsUnseen, alone, changes_geometries as changes_geometries_of, is_renaming, names_layer};
+ghost use Rattle.sf_ruled_store.specs.Undos.{IsEdited, IsGrouped, IsSettled, IsUnseen, alone, is_renaming, is_seen};
 
 use super::refusal::{Refusal, as_edit, as_member, by_edit, by_member, by_rules};
 use super::rules::Rules;
@@ -40,7 +40,7 @@ pub struct Grouped {
     pub undo: Undo,
 }
 
-/// Carries out an edit of a layer that a rule names.
+/// Carries out an edit that a rule sees.
 ///
 /// # Errors
 ///
@@ -52,7 +52,7 @@ pub(crate) fn carry_out_ruled(
     edit: Edit,
 ) -> Result<Edited, Refusal>
     requires settled { IsSettled (ruled store.old rules.old) }
-    requires named { names_layer (edit_layer edit) rules.old ≡ true }
+    requires seen { is_seen edit rules.old ≡ true }
     ensures accepted { IfOk result (λ done.
         IsEdited (ruled store.old rules.old) edit done.answer done.undo (ruled store.new rules.new)) }
     ensures refused { IfErr result (IsRefusedAs (ruled_step (ruled store.old rules.old) (OfChange (OfEdit edit)))) }
@@ -60,11 +60,14 @@ pub(crate) fn carry_out_ruled(
     ensures kept { OnErr result (rules.new ≡ rules.old) }
 {
     is_well_formed(store);
-    if changes_geometries(&edit) {
+    if is_of_features(&edit) {
         return carry_out_seen(alloc, store, rules, edit);
     }
     if let Edit::DropLayer { .. } = &edit {
         return Err(Refusal::LayerRuled);
+    }
+    if let Edit::DropColumn { .. } = &edit {
+        return Err(Refusal::ColumnRuled);
     }
     if let Edit::RenameLayer { name, new_name } = &edit {
         let renamed = rules.renamed(alloc, name.as_str(), new_name.as_str())?;
@@ -73,16 +76,9 @@ pub(crate) fn carry_out_ruled(
     carry_out_unseen(alloc, store, rules, edit)
 }
 
-/// Whether a rule names the layer of an edit.
-pub(crate) fn is_ruled(rules: &Rules, edit: &Edit) -> bool
-    ensures { result ≡ names_layer (edit_layer edit.now) rules.now }
-{
-    rules.names(edit.layer_name().as_str())
-}
-
-/// Whether an edit puts a geometry into its layer, changes one or removes one.
-fn changes_geometries(edit: &Edit) -> bool
-    ensures { result ≡ changes_geometries_of edit.now }
+/// Whether an edit adds a feature, removes one or changes one.
+fn is_of_features(edit: &Edit) -> bool
+    ensures { result ≡ is_edit_of_features edit.now }
 {
     match edit {
         Edit::AddFeature { .. }
@@ -90,15 +86,15 @@ fn changes_geometries(edit: &Edit) -> bool
         | Edit::ReplaceGeometry { .. }
         | Edit::InsertVertex { .. }
         | Edit::MoveVertex { .. }
-        | Edit::RemoveVertex { .. } => true,
+        | Edit::RemoveVertex { .. }
+        | Edit::SetValue { .. }
+        | Edit::ClearValue { .. } => true,
         Edit::AddLayer { .. }
         | Edit::DropLayer { .. }
         | Edit::RenameLayer { .. }
         | Edit::MoveLayer { .. }
         | Edit::AddColumn { .. }
-        | Edit::DropColumn { .. }
-        | Edit::SetValue { .. }
-        | Edit::ClearValue { .. } => false,
+        | Edit::DropColumn { .. } => false,
     }
 }
 
@@ -145,7 +141,7 @@ fn refusal_of(given_back: (Edit, sf_steps::Refusal)) -> Refusal
     by_edit(refusal)
 }
 
-/// Carries out an edit of a feature's geometry in a layer that a rule names: as a group of one.
+/// Carries out an edit of a feature that a rule sees: as a group of one.
 fn carry_out_seen(
     alloc: Global,
     store: &mut Store,
@@ -153,7 +149,7 @@ fn carry_out_seen(
     edit: Edit,
 ) -> Result<Edited, Refusal>
     requires settled { IsSettled (ruled store.old rules.now) }
-    requires of_geometries { changes_geometries_of edit ≡ true }
+    requires of_features { is_edit_of_features edit ≡ true }
     ensures accepted { IfOk result (λ done.
         IsEdited (ruled store.old rules.now) edit done.answer done.undo (ruled store.new rules.now)) }
     ensures refused { IfErr result (IsRefusedAs (ruled_step (ruled store.old rules.now) (OfChange (OfEdit edit)))) }
@@ -285,7 +281,7 @@ fn rename(
 ///
 /// Out of memory alone.
 fn alone(alloc: Global, edit: Edit) -> Result<Group, AllocError>
-    requires { changes_geometries_of edit ≡ true }
+    requires { is_edit_of_features edit ≡ true }
     ensures { IfOk result (λ group. group ≡ alone edit) }
 {
     let mut group = Group::new(alloc);
@@ -300,7 +296,7 @@ fn alone(alloc: Global, edit: Edit) -> Result<Group, AllocError>
     }
 }
 
-/// The edit of a group that has no other, of a feature that it names, in a layer that no rule names.
+/// The edit of a group that has no other, of a feature that it names, and that no rule sees.
 fn only_unseen(rules: &Rules, group: Group) -> Result<Edit, Group>
     ensures { MatchResult result (λ edit. (group ≡ alone edit) × IsUnseen rules.now edit) (λ back. back ≡ group) }
 {
@@ -311,12 +307,12 @@ fn only_unseen(rules: &Rules, group: Group) -> Result<Edit, Group>
     Ok(member.edit)
 }
 
-/// Whether one member stands alone, of a feature that it names, in a layer that no rule names.
+/// Whether one member stands alone, of a feature that it names, and no rule sees it.
 fn is_alone_unseen(rules: &Rules, members: &[Member]) -> bool
     ensures { IsTrue result → (edit : EditOf) × (members.now ≡ alone edit) × IsUnseen rules.now edit }
 {
     match members {
-        [member] => !member.of_last && !is_ruled(rules, &member.edit),
+        [member] => !member.of_last && !rules.see(&member.edit),
         _ => false,
     }
 }

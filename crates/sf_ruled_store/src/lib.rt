@@ -17,6 +17,6 @@ pub use refusal::Refusal;
 pub use ruled::Ruled;
 pub use rules::{RULES_MAX, Rules};
 pub use sf_groups::Group;
-pub use sf_rules::{Ask, Break, Form, Rule};
+pub use sf_rules::{Ask, Break, Demand, Form, LayerRule, Rule, Says, ValueRule};
 pub use sf_steps::{Answer, Edit};
 pub use undo::Undo;

@@ -23,10 +23,14 @@ pub enum Refusal {
     RuleExists,
     /// A rule names the layer that is to be dropped.
     LayerRuled,
+    /// A rule names the column that is to be dropped.
+    ColumnRuled,
     /// The text is no name.
     BadName,
     /// No layer has the name.
     NoLayer,
+    /// No column of the layer has the name.
+    NoColumn,
     /// There are as many rules as there can be.
     TooManyRules,
     /// No memory was found.

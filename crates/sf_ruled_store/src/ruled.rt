@@ -7,7 +7,7 @@ ghost use Rattle.sf_ruled_store.specs.Outcomes.{IsRefusedAs, ruled};
 ghost use Rattle.sf_ruled_store.specs.Undos.{FitsRedoUnder, FitsUndoUnder, FreesOnlyUnder, IsEdited, IsGrouped, IsLed, MakesAgainUnder, TakesBackUnder, TakesNoMemoryUnder};
 ghost use Rattle.sf_changes.specs.Changes.{OfEdit, OfGroup};
 
-use super::edits::{Edited, Grouped, carry_out_group, carry_out_ruled, carry_out_unseen, is_ruled};
+use super::edits::{Edited, Grouped, carry_out_group, carry_out_ruled, carry_out_unseen};
 use super::redo::Redo;
 use super::refusal::Refusal;
 use super::rules::Rules;
@@ -84,14 +84,14 @@ impl Ruled {
     ///
     /// # Errors
     ///
-    /// `ByEdit` as `step` has it; then `LayerRuled` for a layer that is dropped; then `RuleBroken` with the first rule that would be
-    /// broken, and what breaks it first. Out of memory in the place of any. Nothing is changed then.
+    /// `ByEdit` as `step` has it; then `LayerRuled` for a layer that is dropped, `ColumnRuled` for a column; then `RuleBroken` with the
+    /// first rule that would be broken, and what breaks it first. Out of memory in the place of any. Nothing is changed then.
     pub fn edit(&mut self, alloc: Global, edit: Edit) -> Result<Edited, Refusal>
         ensures accepted { IfOk result (λ done. IsEdited self.old edit done.answer done.undo self.new) }
         ensures refused { IfErr result (IsRefusedAs (ruled_step self.old (OfChange (OfEdit edit)))) }
         ensures unchanged { OnErr result (self.new ≡ self.old) }
     {
-        if is_ruled(&self.rules, &edit) {
+        if self.rules.see(&edit) {
             carry_out_ruled(alloc, &mut self.store, &mut self.rules, edit)
         } else {
             carry_out_unseen(alloc, &mut self.store, &self.rules, edit)

@@ -1,14 +1,16 @@
 //! Rules that are kept.
 
-ghost use Rattle.std.specs.Prelude.{◌≡◌, ◌≤◌, ◌<◌, ◌-◌, ◌++◌, ◌∷◌, [], Err, IfErr, IfNone, IfOk, IfSome, Ok, OnErr, OnOk, insert, length, map, remove, slice_get, Some, take};
-ghost use Rattle.sf_layers.specs.Content.{Content};
-ghost use Rattle.sf_ruled_store.specs.Ruled.{AddRule, DropRule, added, place_of_rule, renamed, ruled_step, with_renamed, with_rule};
+ghost use Rattle.std.specs.Prelude.{◌≡◌, ◌≤◌, ◌<◌, ◌-◌, ◌&&◌, ◌||◌, ◌++◌, ◌∷◌, [], Err, IfErr, IfNone, IfOk, IfSome, Ok, OnErr, OnOk, bytes_eq, insert, length, map, option_copied, remove, slice_get, Some, take};
+ghost use Rattle.sf_layers.specs.Content.{Content, has_layer};
+ghost use Rattle.sf_rules.specs.declared.rule.Says.TheVariants.{OfLayers, OfValues};
+ghost use Rattle.sf_ruled_store.specs.Ruled.{AddRule, DropRule, added, has_column_in, has_layers_said, has_said, place_of_rule, renamed, renamed_said, ruled_step, with_renamed, with_rule};
 ghost use Rattle.sf_ruled_store.specs.Outcomes.{IsRefusedAs, ruled};
-ghost use Rattle.sf_ruled_store.specs.Undos.{is_of_layer, names_layer};
+ghost use Rattle.sf_ruled_store.specs.Undos.{changes_column as changes_column_of, changes_geometries as changes_geometries_of, ends_name as ends_name_of, is_seen, sees as sees_edit};
 
 use super::refusal::Refusal;
-use sf_layers::{Store, Text, is_name};
-use sf_rules::{Broken, Rule, first_break};
+use sf_layers::{Layer, Store, Text, is_name};
+use sf_rules::{Broken, LayerRule, Rule, Says, ValueRule, first_break};
+use sf_steps::Edit;
 use std::alloc::{AllocError, Global};
 use std::marker::Model;
 
@@ -56,11 +58,11 @@ impl Rules {
             .position(|rule| name == rule.name.as_str())
     }
 
-    /// Whether a rule names a layer.
-    pub fn names(&self, layer: &str) -> bool
-        ensures { result ≡ names_layer layer.now self.now }
+    /// Whether a rule sees an edit: it may break the rule, or ends what that names.
+    pub(crate) fn see(&self, edit: &Edit) -> bool
+        ensures { result ≡ is_seen edit.now self.now }
     {
-        self.as_slice().iter().any(|rule| is_of(rule, layer))
+        self.as_slice().iter().any(|rule| sees(rule, edit))
     }
 
     /// The rules with another name for a layer, each copied.
@@ -87,7 +89,7 @@ impl Rules {
     ///
     /// # Errors
     ///
-    /// In this order: `BadName`, `RuleExists`, `NoLayer` of the first layer and of the second, `TooManyRules`, and `RuleBroken` with
+    /// In this order: `BadName`, `RuleExists`, `NoLayer` of a layer that it names, `NoColumn`, `TooManyRules`, and `RuleBroken` with
     /// what breaks it first; out of memory in the place of any. The rule is given back, and nothing is changed then.
     pub fn add(&mut self, alloc: Global, store: &Store, rule: Rule) -> Result<(), (Rule, Refusal)>
         ensures added { OnOk result (self.new ≡ self.old ++ rule ∷ []) }
@@ -179,11 +181,11 @@ impl Rules {
         if self.place(rule.name.as_str()).is_some() {
             return Err(Refusal::RuleExists);
         }
-        if store.place(rule.first.as_str()).is_none() {
+        if !has_layers(store, &rule.says) {
             return Err(Refusal::NoLayer);
         }
-        if store.place(rule.second.as_str()).is_none() {
-            return Err(Refusal::NoLayer);
+        if !has_named(store, &rule.says) {
+            return Err(Refusal::NoColumn);
         }
         let place = self.as_slice().len();
         if place >= RULES_MAX {
@@ -196,11 +198,125 @@ impl Rules {
     }
 }
 
+/// Whether the layers that a rule names are there.
+fn has_layers(store: &Store, says: &Says) -> bool
+    ensures { result ≡ has_layers_said store.now says.now }
+{
+    match says {
+        Says::OfLayers(rule) => has_both(store, rule),
+        Says::OfValues(rule) => store.layer(rule.layer.as_str()).is_some(),
+    }
+}
+
+/// Whether both layers of a rule between layers are there.
+fn has_both(store: &Store, rule: &LayerRule) -> bool
+    ensures { result ≡ (has_layer store.now rule.now.first && has_layer store.now rule.now.second) }
+{
+    store.layer(rule.first.as_str()).is_some() && store.layer(rule.second.as_str()).is_some()
+}
+
+/// Whether all that a rule names is there: its layers, or its layer and the column.
+fn has_named(store: &Store, says: &Says) -> bool
+    ensures { result ≡ has_said store.now says.now }
+{
+    match says {
+        Says::OfLayers(rule) => has_both(store, rule),
+        Says::OfValues(rule) => has_column(store.layer(rule.layer.as_str()), rule.column.as_str()),
+    }
+}
+
+/// Whether a layer is there and has the column of a name.
+fn has_column(layer: Option<&Layer>, name: &str) -> bool
+    ensures { result ≡ has_column_in name.now (option_copied layer.entry) }
+{
+    match layer {
+        Some(layer) => layer.column_place(name).is_some(),
+        None => false,
+    }
+}
+
+/// Whether a rule sees an edit.
+fn sees(rule: &Rule, edit: &Edit) -> bool
+    ensures { result ≡ sees_edit edit.now rule.now }
+{
+    let layer = edit.layer_name().as_str();
+    match &rule.says {
+        Says::OfLayers(rule) => is_of(rule, layer) && changes_shapes(edit),
+        Says::OfValues(rule) => {
+            layer == rule.layer.as_str() && changes_values(edit, rule.column.as_str())
+        }
+    }
+}
+
 /// Whether a layer of the rule has the name.
-fn is_of(rule: &Rule, layer: &str) -> bool
-    ensures { result ≡ is_of_layer layer.now rule.now }
+fn is_of(rule: &LayerRule, layer: &str) -> bool
+    ensures { result ≡ (bytes_eq layer.now rule.now.first || bytes_eq layer.now rule.now.second) }
 {
     layer == rule.first.as_str() || layer == rule.second.as_str()
+}
+
+/// Whether an edit changes geometries of its layer, or ends its name.
+fn changes_shapes(edit: &Edit) -> bool
+    ensures { result ≡ (changes_geometries_of edit.now || ends_name_of edit.now) }
+{
+    changes_geometries(edit) || ends_name(edit)
+}
+
+/// Whether an edit changes what its layer has in the column of a name, or ends its name.
+fn changes_values(edit: &Edit, column: &str) -> bool
+    ensures { result ≡ (changes_column_of column.now edit.now || ends_name_of edit.now) }
+{
+    changes_column(edit, column) || ends_name(edit)
+}
+
+/// Whether an edit puts a geometry into its layer, changes one or removes one.
+fn changes_geometries(edit: &Edit) -> bool
+    ensures { result ≡ changes_geometries_of edit.now }
+{
+    match edit {
+        Edit::AddFeature { .. }
+        | Edit::DeleteFeature { .. }
+        | Edit::ReplaceGeometry { .. }
+        | Edit::InsertVertex { .. }
+        | Edit::MoveVertex { .. }
+        | Edit::RemoveVertex { .. } => true,
+        Edit::AddLayer { .. }
+        | Edit::DropLayer { .. }
+        | Edit::RenameLayer { .. }
+        | Edit::MoveLayer { .. }
+        | Edit::AddColumn { .. }
+        | Edit::DropColumn { .. }
+        | Edit::SetValue { .. }
+        | Edit::ClearValue { .. } => false,
+    }
+}
+
+/// Whether an edit changes which features its layer has, or which values they have in the column of a name, or drops that.
+fn changes_column(edit: &Edit, column: &str) -> bool
+    ensures { result ≡ changes_column_of column.now edit.now }
+{
+    match edit {
+        Edit::AddFeature { .. } | Edit::DeleteFeature { .. } => true,
+        Edit::SetValue { column: other, .. }
+        | Edit::ClearValue { column: other, .. }
+        | Edit::DropColumn { name: other, .. } => column == other.as_str(),
+        Edit::ReplaceGeometry { .. }
+        | Edit::InsertVertex { .. }
+        | Edit::MoveVertex { .. }
+        | Edit::RemoveVertex { .. }
+        | Edit::AddLayer { .. }
+        | Edit::DropLayer { .. }
+        | Edit::RenameLayer { .. }
+        | Edit::MoveLayer { .. }
+        | Edit::AddColumn { .. } => false,
+    }
+}
+
+/// Whether an edit drops its layer, or gives it another name.
+fn ends_name(edit: &Edit) -> bool
+    ensures { result ≡ ends_name_of edit.now }
+{
+    matches!(edit, Edit::DropLayer { .. } | Edit::RenameLayer { .. })
 }
 
 /// A copy of a rule with another name for a layer.
@@ -213,10 +329,60 @@ fn copy_renamed(alloc: Global, rule: &Rule, layer: &str, new_name: &str) -> Resu
 {
     Ok(Rule {
         name: rule.name.copy(alloc)?,
+        says: says_renamed(alloc, &rule.says, layer, new_name)?,
+    })
+}
+
+/// A copy of what a rule says, with another name for a layer.
+///
+/// # Errors
+///
+/// Out of memory alone.
+fn says_renamed(alloc: Global, says: &Says, layer: &str, new_name: &str) -> Result<Says, AllocError>
+    ensures { IfOk result (λ copy. copy ≡ renamed_said layer.now new_name.now says.now) }
+{
+    match says {
+        Says::OfLayers(rule) => {
+            let copy = layer_rule_renamed(alloc, rule, layer, new_name)?;
+            Ok(Says::OfLayers(copy))
+        }
+        Says::OfValues(rule) => {
+            let copy = value_rule_renamed(alloc, rule, layer, new_name)?;
+            Ok(Says::OfValues(copy))
+        }
+    }
+}
+
+/// The same of a rule between layers.
+fn layer_rule_renamed(
+    alloc: Global,
+    rule: &LayerRule,
+    layer: &str,
+    new_name: &str,
+) -> Result<LayerRule, AllocError>
+    ensures { IfOk result (λ copy. OfLayers copy ≡ renamed_said layer.now new_name.now (OfLayers rule.now)) }
+{
+    Ok(LayerRule {
         form: rule.form,
         first: copy_unless_renamed(alloc, &rule.first, layer, new_name)?,
         ask: rule.ask,
         second: copy_unless_renamed(alloc, &rule.second, layer, new_name)?,
+    })
+}
+
+/// The same of a rule on values.
+fn value_rule_renamed(
+    alloc: Global,
+    rule: &ValueRule,
+    layer: &str,
+    new_name: &str,
+) -> Result<ValueRule, AllocError>
+    ensures { IfOk result (λ copy. OfValues copy ≡ renamed_said layer.now new_name.now (OfValues rule.now)) }
+{
+    Ok(ValueRule {
+        demand: rule.demand,
+        layer: copy_unless_renamed(alloc, &rule.layer, layer, new_name)?,
+        column: rule.column.copy(alloc)?,
     })
 }
 

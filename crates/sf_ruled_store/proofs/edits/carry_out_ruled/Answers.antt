@@ -1,11 +1,10 @@
 use Rattle.std.proofs.Common.{◌≡◌, true, Err, sym, subst}
-use Rattle.sf_steps.specs.Steps.{edit_layer}
 use Rattle.sf_changes.specs.Changes.{OfEdit}
-use Rattle.sf_ruled_store.specs.declared.refusal.Refusal.TheVariants.{LayerRuled}
+use Rattle.sf_ruled_store.specs.declared.refusal.Refusal.TheVariants.{ColumnRuled, LayerRuled}
 use Rattle.sf_ruled_store.specs.Outcomes.{ruled}
 use Rattle.sf_ruled_store.specs.Ruled.{OfChange, ruled_step}
-use Rattle.sf_ruled_store.specs.Undos.{names_layer}
-use Rattle.sf_ruled_store.proofs.CallLaws.{dropped-refused}
+use Rattle.sf_ruled_store.specs.Undos.{is_seen}
+use Rattle.sf_ruled_store.proofs.CallLaws.{column-refused, dropped-refused}
 use Rattle.sf_ruled_store.proofs.edits.carry_out_ruled.Goals as goal
 
 pub returns-in-DropLayer-clause-refused : goal.returns-in-DropLayer-clause-refused
@@ -14,4 +13,12 @@ returns-in-DropLayer-clause-refused c =
     let rules = c.args.rules.now in
     subst (λ edit. ruled_step (ruled store rules) (OfChange (OfEdit edit)) ≡ Err LayerRuled) (sym c.in-DropLayer.is)
     (dropped-refused store rules c.in-DropLayer.name c.is_well_formed.ensures c.requires.settled
-    (subst (λ edit. names_layer (edit_layer edit) rules ≡ true) c.in-DropLayer.is c.requires.named))
+    (subst (λ edit. is_seen edit rules ≡ true) c.in-DropLayer.is c.requires.seen))
+
+pub returns-in-DropColumn-clause-refused : goal.returns-in-DropColumn-clause-refused
+returns-in-DropColumn-clause-refused c =
+    let store = c.args.store.now in
+    let rules = c.args.rules.now in
+    subst (λ edit. ruled_step (ruled store rules) (OfChange (OfEdit edit)) ≡ Err ColumnRuled) (sym c.in-DropColumn.is)
+    (column-refused store rules c.in-DropColumn.layer c.in-DropColumn.name c.is_well_formed.ensures c.requires.settled
+    (subst (λ edit. is_seen edit rules ≡ true) c.in-DropColumn.is c.requires.seen))

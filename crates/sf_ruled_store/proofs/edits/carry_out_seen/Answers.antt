@@ -17,7 +17,7 @@ returns-in-Ok-clause-accepted c =
     subst (λ members. IsGrouped (ruled old rules) members ids undo (ruled new rules)) c.in_ok-group.ensures c.in-Ok.ensures.accepted in
     subst (λ answer. IsEdited (ruled old rules) c.args.edit answer undo (ruled new rules))
     (sym (c.answer_of.ensures ∙ ap answer_of c.as_slice.ensures.value))
-    (seen-edited old new rules c.args.edit ids undo c.requires.of_geometries grouped)
+    (seen-edited old new rules c.args.edit ids undo c.requires.of_features grouped)
 
 pub returns-in-Err-clause-refused : goal.returns-in-Err-clause-refused
 returns-in-Err-clause-refused c =
@@ -25,5 +25,5 @@ returns-in-Err-clause-refused c =
     let rules = c.args.rules.now in
     let refusal = c.in-Err.refusal in
     subst (λ given. IsRefusedAs (ruled_step (ruled old rules) (OfChange (OfEdit c.args.edit))) given) (sym c.as_edit.ensures)
-    (seen-refused old rules c.args.edit refusal c.requires.of_geometries
+    (seen-refused old rules c.args.edit refusal c.requires.of_features
     (subst (λ members. IsRefusedAs (ruled_step (ruled old rules) (OfChange (OfGroup members))) refusal) c.in_ok-group.ensures c.in-Err.ensures.refused))
