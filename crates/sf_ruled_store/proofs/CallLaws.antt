@@ -202,7 +202,7 @@ dropped-refused old rules name fine held seen =
 -- the column that an edit drops is that of the rule that sees it
 column-seen : (content : Content) (name column : List ℕ) (says : Says) → has_said content says ≡ true → sees_said (DropColumn name column) says ≡ true
     → (a : LayerContent) × (c : Column) × (layer_of content name ≡ Some a) × (column_named a column ≡ Some c)
-column-seen content name column (OfLayers rule) there seen = let wrong : false ≡ true = (and_true _ _ seen).1 in cc
+column-seen content name column (OfLayers rule) there seen = let wrong : false ≡ true = (and_true (bytes_eq name rule.first || bytes_eq name rule.second) false seen).1 in cc
 column-seen content name column (OfValues rule) there seen =
     let both = and_true (bytes_eq name rule.layer) _ seen in
     let same : rule.column ≡ column = same-names rule.column column (or_left (bytes_eq rule.column column) both.1) in
@@ -216,7 +216,7 @@ column-seen content name column (OfValues rule) there seen =
 -- where it is gone from its layer, it is not there for the rule
 column-gone : (content : Content) (name column : List ℕ) (a : LayerContent) (says : Says) → layer_of content name ≡ Some a → column_named a column ≡ None → sees_said (DropColumn name column) says ≡ true
     → has_said content says ≡ false
-column-gone content name column a (OfLayers rule) found none seen = let wrong : false ≡ true = (and_true _ _ seen).1 in cc
+column-gone content name column a (OfLayers rule) found none seen = let wrong : false ≡ true = (and_true (bytes_eq name rule.first || bytes_eq name rule.second) false seen).1 in cc
 column-gone content name column a (OfValues rule) found none seen =
     let both = and_true (bytes_eq name rule.layer) _ seen in
     ap (λ n. has_column_in rule.column (layer_of content n)) (sym (same-names name rule.layer both.0))
@@ -286,6 +286,42 @@ column-refused old rules name column fine held seen =
     passes true true is js = refl
     passes true false is js = cc
     passes false u is js = cc
+
+-- ---- what no rule can see
+
+none-sees : (edit : Edit) (rules : List Rule) → ((says : Says) → sees_said edit says ≡ false) → is_seen edit rules ≡ false
+none-sees edit [] none = refl
+none-sees edit (rule ∷ rules) none = ap (λ b. b || is_seen edit rules) (none rule.says) ∙ none-sees edit rules none
+
+-- an edit that is of no feature, drops nothing and renames nothing
+pub not-seen : (edit : Edit) (rules : List Rule) → is_of_features edit ≡ false → ((name : List ℕ) → edit ≡ DropLayer name → ⊥) → ((name column : List ℕ) → edit ≡ DropColumn name column → ⊥)
+    → ((name new_name : List ℕ) → edit ≡ RenameLayer name new_name → ⊥) → is_seen edit rules ≡ false
+not-seen (AddLayer name kind) rules of layer column other = none-sees (AddLayer name kind) rules none
+  where
+    none : (says : Says) → sees_said (AddLayer name kind) says ≡ false
+    none (OfLayers rule) = and_second (bytes_eq name rule.first || bytes_eq name rule.second) false refl
+    none (OfValues rule) = and_second (bytes_eq name rule.layer) false refl
+not-seen (DropLayer name) rules of layer column other = absurd (layer name refl)
+not-seen (RenameLayer name new_name) rules of layer column other = absurd (other name new_name refl)
+not-seen (MoveLayer name place) rules of layer column other = none-sees (MoveLayer name place) rules none
+  where
+    none : (says : Says) → sees_said (MoveLayer name place) says ≡ false
+    none (OfLayers rule) = and_second (bytes_eq name rule.first || bytes_eq name rule.second) false refl
+    none (OfValues rule) = and_second (bytes_eq name rule.layer) false refl
+not-seen (AddColumn name added column_type) rules of layer column other = none-sees (AddColumn name added column_type) rules none
+  where
+    none : (says : Says) → sees_said (AddColumn name added column_type) says ≡ false
+    none (OfLayers rule) = and_second (bytes_eq name rule.first || bytes_eq name rule.second) false refl
+    none (OfValues rule) = and_second (bytes_eq name rule.layer) false refl
+not-seen (DropColumn name dropped) rules of layer column other = absurd (column name dropped refl)
+not-seen (AddFeature name geometry) rules of layer column other = cc
+not-seen (DeleteFeature name id) rules of layer column other = cc
+not-seen (ReplaceGeometry name id geometry) rules of layer column other = cc
+not-seen (InsertVertex name id part ring index point) rules of layer column other = cc
+not-seen (MoveVertex name id part ring index point) rules of layer column other = cc
+not-seen (RemoveVertex name id part ring index) rules of layer column other = cc
+not-seen (SetValue name id set value) rules of layer column other = cc
+not-seen (ClearValue name id cleared) rules of layer column other = cc
 
 -- ---- groups
 
@@ -397,7 +433,7 @@ seen-edited old new rules edit ids undo seen grouped =
 
 -- rules refuse no member
 settled-refusal : (r : Ruled) (refusal : Refusal) → IsRefusedAs (settled r) refusal → IsRefusedAs (settled r) (as_edit refusal)
-settled-refusal r (ByMember number refusal) h = by (list_all (has_layers r.content) r.rules) h
+settled-refusal r (ByMember number refusal) h = by (list_all (has_named r.content) r.rules) h
   where
     why : (t : Bool) → ◌≡◌ {A = Result Ruled Refusal} (Err (if t then ColumnRuled else LayerRuled)) (Err (ByMember number refusal)) → ⊥
     why true g = cc
@@ -454,7 +490,7 @@ alone-grouped old new rules edit answer undo unseen edited =
 
 -- rules refuse no edit either
 settled-member : (r : Ruled) (refusal : Refusal) → IsRefusedAs (settled r) refusal → IsRefusedAs (settled r) (as_member refusal)
-settled-member r (ByEdit refusal) h = by (list_all (has_layers r.content) r.rules) h
+settled-member r (ByEdit refusal) h = by (list_all (has_named r.content) r.rules) h
   where
     why : (t : Bool) → ◌≡◌ {A = Result Ruled Refusal} (Err (if t then ColumnRuled else LayerRuled)) (Err (ByEdit refusal)) → ⊥
     why true g = cc

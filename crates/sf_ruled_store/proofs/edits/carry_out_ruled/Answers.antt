@@ -1,10 +1,10 @@
-use Rattle.std.proofs.Common.{◌≡◌, true, Err, sym, subst}
+use Rattle.std.proofs.Common.{◌≡◌, ◌∙◌, true, Err, sym, subst}
 use Rattle.sf_changes.specs.Changes.{OfEdit}
 use Rattle.sf_ruled_store.specs.declared.refusal.Refusal.TheVariants.{ColumnRuled, LayerRuled}
 use Rattle.sf_ruled_store.specs.Outcomes.{ruled}
 use Rattle.sf_ruled_store.specs.Ruled.{OfChange, ruled_step}
 use Rattle.sf_ruled_store.specs.Undos.{is_seen}
-use Rattle.sf_ruled_store.proofs.CallLaws.{column-refused, dropped-refused}
+use Rattle.sf_ruled_store.proofs.CallLaws.{column-refused, dropped-refused, not-seen}
 use Rattle.sf_ruled_store.proofs.edits.carry_out_ruled.Goals as goal
 
 pub returns-in-DropLayer-clause-refused : goal.returns-in-DropLayer-clause-refused
@@ -22,3 +22,9 @@ returns-in-DropColumn-clause-refused c =
     subst (λ edit. ruled_step (ruled store rules) (OfChange (OfEdit edit)) ≡ Err ColumnRuled) (sym c.in-DropColumn.is)
     (column-refused store rules c.in-DropColumn.layer c.in-DropColumn.name c.is_well_formed.ensures c.requires.settled
     (subst (λ edit. is_seen edit rules ≡ true) c.in-DropColumn.is c.requires.seen))
+
+pub carry_out_unseen-requires : goal.carry_out_unseen-requires
+carry_out_unseen-requires c = record {
+  settled = c.requires.settled;
+  unseen = not-seen c.args.edit c.args.rules.now (sym c.is_of_features.ensures ∙ c.if-is_of_features.false) c.in_default.not-DropLayer c.in_default-edit.not-DropColumn c.in_default-edit-2.not-RenameLayer;
+}
