@@ -15,7 +15,7 @@ use Rattle.sf_features.specs.declared.attr_value.AttrValue.{AttrValue}
 use Rattle.sf_features.specs.Features.{FeatureContent, value_in}
 use Rattle.sf_layers.specs.Found.{has_value_that}
 use Rattle.sf_layers.specs.Moves.{Features}
-use Rattle.sf_layers.specs.ValueIndexes.{AreNoted, HasEach, HasPair, Indexes, IsKnown, IsNoted, Pairs}
+use Rattle.sf_layers.specs.ValueIndexes.{AreNoted, HasEach, HasPair, Indexes, IsKnown, Pairs}
 use Rattle.sf_layers.proofs.ValuesKept.{all-found, noted-found}
 
 -- ---- rising numbers that are the same set are the same list

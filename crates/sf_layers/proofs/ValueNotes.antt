@@ -1,5 +1,5 @@
 -- What the indexes by value have of features, as pairs are added and indexes are made and lost.
-use Rattle.std.specs.Prelude.{◌≡◌, ℕ, ◌≤◌, ◌<◌, ◌+◌, length, take, get_or, Bool, true, false, cond, List, [], ◌∷◌, ◌++◌, Option, None, Some, IfSome, IsSome, IsSomeAnd, OnOk, Result, IsTrue, nat_eq}
+use Rattle.std.specs.Prelude.{◌≡◌, ℕ, ◌<◌, ◌+◌, length, take, get_or, Bool, true, false, cond, List, [], ◌∷◌, ◌++◌, Option, None, Some, IfSome, IsSomeAnd, nat_eq}
 use Rattle.std.specs.BTreeMap.{is_at}
 use Rattle.std.specs.List.{AllByRecursion}
 use Rattle.std.specs.List.Sorted.{IsStrictlySortedBy}
@@ -10,7 +10,7 @@ use Rattle.std.proofs.Common.{refl, ap, sym, subst, ◌∙◌, arith}
 use Rattle.std.proofs.lemmas.Bool.Decides.{nat_tests}
 use Rattle.std.proofs.lemmas.List.Elements.{All-from_recursion, All-more, recursion_from_All}
 use Rattle.sf_features.specs.declared.attr_value.AttrValue.{AttrValue}
-use Rattle.sf_features.specs.Features.{FeatureContent, value_in}
+use Rattle.sf_features.specs.Features.{FeatureContent}
 use Rattle.sf_layers.specs.Moves.{Features}
 use Rattle.sf_layers.specs.ValueIndexes.{AreKept, AreNoted, Grows, HasAll, HasPair, HasThose, Indexes, IsKnown, IsNoted, Pairs}
 

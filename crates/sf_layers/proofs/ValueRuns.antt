@@ -1,16 +1,15 @@
 -- Which pairs of an index are found between two ends.
-use Rattle.std.specs.Prelude.{◌≡◌, ℕ, ◌≤◌, Bool, true, false, not, ◌&&◌, ◌||◌, cond, List, [], ◌∷◌, map, filter, Option, None, Some, IsTrue, Result, Ok, Err, IfOk, nat_eq}
+use Rattle.std.specs.Prelude.{◌≡◌, ℕ, ◌≤◌, Bool, true, false, not, ◌||◌, List, [], ◌∷◌, map, filter, Option, None, Some, Result, Ok, Err, IfOk, nat_eq}
 use Rattle.std.specs.BTreeMap.{is_at}
 use Rattle.std.specs.BTreeMap.Range.{IsLeBy, IsLtBy, is_from_start, is_past_end, range_contains}
 use Rattle.std.specs.Bound.{IsForward}
-use Rattle.std.specs.Cmp.{IsTotalOrder}
 use Rattle.std.specs.List.{Contains, list_any}
 use Rattle.std.specs.List.Sorted.{IsStrictlySortedBy}
 use Rattle.std.specs.Ordering.{is_eq, is_gt, is_le, is_lt, nat_cmp, ordering_reverse, ordering_then}
 use Rattle.std.specs.declared.cmp.Ordering.{Ordering}
 use Rattle.std.specs.declared.cmp.Ordering.TheVariants.{Less, Equal, Greater}
 use Rattle.std.specs.declared.ops.Bound.{Bound}
-use Rattle.std.specs.declared.ops.Bound.TheVariants.{Included, Unbounded}
+use Rattle.std.specs.declared.ops.Bound.TheVariants.{Included}
 use Rattle.std.proofs.Common.{refl, ap, sym, subst, ◌∙◌, arith, true≢false}
 use Rattle.std.proofs.lemmas.Bool.{and_from, and_parts}
 use Rattle.std.proofs.lemmas.Bool.Decides.{nat_tests}
@@ -23,7 +22,7 @@ use Rattle.sf_features.proofs.SameLaws.{same-value}
 use Rattle.sf_features.proofs.ValueTotal.{values_total}
 use Rattle.sf_layers.specs.Found.{is_between, is_from, is_up_to}
 use Rattle.sf_layers.specs.KeyOrder.{keys_total}
-use Rattle.sf_layers.specs.ValueIndexes.{HasEach, HasPair, Pairs, are_apart, end_at, id_max, key, key_cmp, start_at}
+use Rattle.sf_layers.specs.ValueIndexes.{HasEach, Pairs, are_apart, end_at, id_max, key, key_cmp, start_at}
 use Rattle.sf_layers.specs.declared.value_key.ValueKey.{ValueKey}
 
 pub IfOk-map : {T E : Type 0} (P Q : T → Type 0) (r : Result T E) → ((x : T) → P x → Q x) → IfOk r P → IfOk r Q

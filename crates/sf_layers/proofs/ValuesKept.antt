@@ -1,12 +1,12 @@
 -- Features that are changed: what the indexes by value have of them stays what they have to have.
-use Rattle.std.specs.Prelude.{◌≡◌, ℕ, Bool, true, false, cond, if◌then◌else◌, List, [], ◌∷◌, map, Option, None, Some, IfSome, nat_eq}
+use Rattle.std.specs.Prelude.{◌≡◌, ℕ, Bool, true, false, cond, if◌then◌else◌, List, [], ◌∷◌, map, None, Some, IfSome, nat_eq}
 use Rattle.std.specs.declared.cmp.Ordering.{Ordering}
 use Rattle.std.specs.declared.cmp.Ordering.TheVariants.{Less, Equal, Greater}
 use Rattle.std.specs.BTreeMap.{insert_entry, is_at}
 use Rattle.std.specs.List.{AllByRecursion}
 use Rattle.std.specs.Map.{lookup, remove_entry, set_value}
 use Rattle.std.specs.Ordering.{match_ordering, nat_cmp}
-use Rattle.std.proofs.Common.{refl, ap, sym, subst, ◌∙◌, arith}
+use Rattle.std.proofs.Common.{refl, sym, subst, arith}
 use Rattle.std.proofs.lemmas.Bool.Decides.{nat_tests}
 use Rattle.sf_features.specs.declared.attr_value.AttrValue.{AttrValue}
 use Rattle.sf_features.specs.Features.{FeatureContent, with_value, without_value}
@@ -14,7 +14,7 @@ use Rattle.sf_layers.specs.Content.{change_value}
 use Rattle.sf_layers.specs.Moves.{Features, put_each}
 use Rattle.sf_layers.specs.ValueIndexes.{AreKept, AreNoted, HasPair, Indexes, IsKnown, IsNoted}
 use Rattle.sf_layers.proofs.Values.{bare}
-use Rattle.sf_layers.proofs.ValueNotes.{all-known-kept, noted-kept}
+use Rattle.sf_layers.proofs.ValueNotes.{noted-kept}
 
 -- ---- what holds of each entry of a list that is changed
 

@@ -1,6 +1,6 @@
 -- Internal: who wants to trust the program need not read this file.
 -- The indexes of a layer by the values of its features: what they have of the features, at least.
-use Rattle.std.specs.Prelude.{◌≡◌, ℕ, ◌≤◌, Bool, true, false, List, Option, None, Some, IfSome, IsSomeAnd, IsTrue, nat_eq}
+use Rattle.std.specs.Prelude.{◌≡◌, ℕ, ◌≤◌, Bool, false, List, Option, None, Some, IfSome, IsSomeAnd, IsTrue, nat_eq}
 use Rattle.std.specs.BTreeMap.{is_at}
 use Rattle.std.specs.List.{AllByRecursion, Contains, list_any}
 use Rattle.std.specs.Map.{lookup}

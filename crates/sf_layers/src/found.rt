@@ -72,12 +72,7 @@ fn ids_found<T: ValueTest>(
 }
 
 // Whether there is a feature under an identifier of which the value passes the test.
-fn is_found<T: ValueTest>(
-    features: &BTreeMap<u32, Feature>,
-    number: u16,
-    test: &T,
-    id: u32,
-) -> bool
+fn is_found<T: ValueTest>(features: &BTreeMap<u32, Feature>, number: u16, test: &T, id: u32) -> bool
     ensures { result ≡ option_map_or
         (has_value_that (T.test test.now) number) (lookup (nat_eq id) features.now.entries) false }
 {

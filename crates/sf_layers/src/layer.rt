@@ -273,7 +273,7 @@ impl Layer {
         ensures { IfOk result (λ ids. ids.items ≡ ids_between number from.now to.now self.now) }
     {
         let test = IsBetween { from, to };
-        match self.values.column(number) {
+        match self.values.column_between(number, from, to) {
             Some(index) => {
                 let ids = index.ids_between(alloc, from, to)?;
                 ids_among(alloc, &self.features, number, &test, ids.as_slice())

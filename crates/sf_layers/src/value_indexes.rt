@@ -1,6 +1,6 @@
 //! The indexes of a layer by the values of its features. An index is lost where memory runs out, and never in the way of a
 //! change: what is lost is made anew.
-ghost use Rattle.std.specs.Prelude.{◌≡◌, IfSome, IsTrue, None, [], is_some, nat_eq, option_copied};
+ghost use Rattle.std.specs.Prelude.{◌≡◌, IfSome, IsTrue, None, Some, [], nat_eq, option_copied};
 ghost use Rattle.std.specs.List.{AllByRecursion};
 ghost use Rattle.std.specs.Map.{lookup};
 ghost use Rattle.sf_layers.specs.ValueIndexes.{AreKept, AreNoted, IsKnown};
@@ -40,6 +40,21 @@ impl ValueIndexes {
         ensures { option_copied result ≡ lookup (nat_eq number) self.now }
     {
         self.columns.get(&number)
+    }
+
+    /// The same where a bound is given; where none is, each feature with a value is asked for, and no index helps.
+    pub(crate) fn column_between(
+        &self,
+        number: u16,
+        from: &Option<AttrValue>,
+        to: &Option<AttrValue>,
+    ) -> Option<&ValueIndex>
+        ensures { IfSome (option_copied result) (λ index. lookup (nat_eq number) self.now ≡ Some index) }
+    {
+        if from.is_none() && to.is_none() {
+            return None;
+        }
+        self.column(number)
     }
 
     /// Makes the index of the column of a number. Where no memory is found, nothing is changed.

@@ -60,6 +60,8 @@ impl Ord for ValueKey {
     ghost matches_eq = { λ x y. refl };
 
     fn cmp(&self, other: &ValueKey) -> Ordering {
-        self.value.compare(&other.value).then(self.id.cmp(&other.id))
+        self.value
+            .compare(&other.value)
+            .then(self.id.cmp(&other.id))
     }
 }

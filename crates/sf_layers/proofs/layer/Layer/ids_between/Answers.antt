@@ -13,7 +13,7 @@ ids_among-requires-clause-all c =
     let features = c.self.inside.features.entries in
     subst (λ given. (id : ℕ) → (feature : FeatureContent) → lookup (nat_eq id) features ≡ Some feature → IsTrue (has_value_that (is_between c.args.from.now c.args.to.now) c.args.number feature) → Contains given id)
     (sym c.as_slice.ensures.value)
-    (all-there c.args.number (is_between c.args.from.now c.args.to.now) c.self.inside.values c.in-Some.index.now features c.in_ok-ids-in-Some.ids.items c.self.invariant.1 (sym c.in-Some.ensures) c.in_ok-ids-in-Some.ensures.all)
+    (all-there c.args.number (is_between c.args.from.now c.args.to.now) c.self.inside.values c.in-Some.index.now features c.in_ok-ids-in-Some.ids.items c.self.invariant.1 c.in-Some.ensures c.in_ok-ids-in-Some.ensures.all)
 
 pub returns-in_ok-ids-in-Some : goal.returns-in_ok-ids-in-Some
 returns-in_ok-ids-in-Some c =

@@ -18,8 +18,8 @@ invariant_of-self c = (
 
 pub invariant_of-self-2 : goal.invariant_of-self-2
 invariant_of-self-2 c = (
-    agrees-put c.self.inside.index c.put_box.new.index c.self.inside.features.entries c.insert_feature.new.features.entries c.args.id c.args.feature c.extent_of-extent.result
-    c.self.invariant.0 c.in_ok-insert_feature.ensures.put c.extent_of-extent.ensures c.put_box.ensures,
-    noted-put c.self.inside.values c.note_all.new.self c.self.inside.features.entries c.insert_feature.new.features.entries c.args.id c.args.feature c.note_all.ensures.kept c.self.invariant.1
-    (subst (AllByRecursion (λ e. IsKnown c.note_all.new.self c.args.id e.0 e.1)) c.values.ensures c.note_all.ensures.known) c.in_ok-insert_feature.ensures.put,
+  agrees-put c.self.inside.index c.put_box.new.index c.self.inside.features.entries c.insert_feature.new.features.entries c.args.id c.args.feature c.extent_of-extent.result
+      c.self.invariant.0 c.in_ok-insert_feature.ensures.put c.extent_of-extent.ensures c.put_box.ensures,
+  noted-put c.self.inside.values c.note_all.new.self c.self.inside.features.entries c.insert_feature.new.features.entries c.args.id c.args.feature c.note_all.ensures.kept c.self.invariant.1
+      (subst (AllByRecursion (λ e. IsKnown c.note_all.new.self c.args.id e.0 e.1)) c.values.ensures c.note_all.ensures.known) c.in_ok-insert_feature.ensures.put,
 )

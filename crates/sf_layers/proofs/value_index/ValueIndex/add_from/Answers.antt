@@ -1,5 +1,4 @@
-use Rattle.std.proofs.Common.{OnOk, IfSome, None, Some, option_copied, nat_eq, subst, sym, ap}
-use Rattle.sf_features.specs.Features.{value_in}
+use Rattle.std.proofs.Common.{IfSome, subst}
 use Rattle.sf_layers.specs.ValueIndexes.{HasPair}
 use Rattle.sf_layers.proofs.Outcomes.{OnOk-map}
 use Rattle.sf_layers.proofs.ValueNotes.{has_those-found}

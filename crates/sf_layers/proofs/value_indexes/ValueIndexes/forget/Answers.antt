@@ -1,7 +1,6 @@
 use Rattle.std.proofs.Common.{subst}
 use Rattle.sf_layers.specs.ValueIndexes.{AreKept}
 use Rattle.sf_layers.proofs.ValueNotes.{kept-removed}
-use Rattle.sf_layers.specs.contracts.value_indexes.ValueIndexes.{the_view}
 use Rattle.sf_layers.proofs.value_indexes.ValueIndexes.forget.Goals as goal
 
 pub returns-clause-kept : goal.returns-clause-kept

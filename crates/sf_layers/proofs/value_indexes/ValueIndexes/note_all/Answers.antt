@@ -9,5 +9,5 @@ loop-number-preserved c =
     let values = c.args.values.now in (
       kept-then c.args.self.now old c.note.new.self c.loop-number.invariant.0 c.note.ensures.kept,
       all_taken (λ e. IsKnown c.note.new.self c.args.id e.0 e.1) values c.loop-number.number-index _ c.loop-number-test.true c.loop-number-item.is
-      (all-known-kept old c.note.new.self c.args.id (take c.loop-number.number-index values) c.note.ensures.kept c.loop-number.invariant.1) c.note.ensures.known,
+          (all-known-kept old c.note.new.self c.args.id (take c.loop-number.number-index values) c.note.ensures.kept c.loop-number.invariant.1) c.note.ensures.known,
     )
