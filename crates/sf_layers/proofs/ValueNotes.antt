@@ -155,3 +155,12 @@ noted-made number index old new features all noted updates =
 pub all_taken : {X : Type 0} (P : X → Type 0) (xs : List X) (i : ℕ) (x : X) → i < length xs → x ≡ get_or xs i x → AllByRecursion P (take i xs) → P x → AllByRecursion P (take (i + 1) xs)
 all_taken P xs i x below is all new =
     recursion_from_All P (take (i + 1) xs) (All-more P xs i x below (All-from_recursion P (take i xs) all) (subst P is new))
+
+-- where there is no index, each value is known
+all-known-none : (id : ℕ) (values : List (ℕ × AttrValue)) → AllByRecursion (λ e. IsKnown [] id e.0 e.1) values
+all-known-none id [] = tt
+all-known-none id (v ∷ vs) = (tt, all-known-none id vs)
+
+pub all-known-empty : (indexes : Indexes) (id : ℕ) (values : List (ℕ × AttrValue)) → length indexes ≡ 0 → AllByRecursion (λ e. IsKnown indexes id e.0 e.1) values
+all-known-empty [] id values none = all-known-none id values
+all-known-empty (i ∷ indexes) id values none = absurd (omega (arith, none))

@@ -97,8 +97,19 @@ impl ValueIndexes {
         }
     }
 
-    /// Adds the values of a feature, by column number.
+    /// Adds the values of a feature, by column number. Where there is no index, none of them is looked at.
     pub(crate) fn note_all(&mut self, alloc: Global, id: u32, values: &[(u16, AttrValue)])
+        ensures known { AllByRecursion (λ entry. IsKnown self.new id entry.0 entry.1) values.now }
+        ensures kept { AreKept self.old self.new }
+    {
+        if self.columns.is_empty() {
+            return;
+        }
+        self.note_each(alloc, id, values);
+    }
+
+    // The same, one after the other.
+    fn note_each(&mut self, alloc: Global, id: u32, values: &[(u16, AttrValue)])
         ensures known { AllByRecursion (λ entry. IsKnown self.new id entry.0 entry.1) values.now }
         ensures kept { AreKept self.old self.new }
     {

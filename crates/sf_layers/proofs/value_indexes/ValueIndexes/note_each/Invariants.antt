@@ -1,7 +1,7 @@
 use Rattle.std.proofs.Common.{take}
 use Rattle.std.specs.List.{AllByRecursion}
 use Rattle.sf_layers.specs.ValueIndexes.{AreKept, IsKnown}
-use Rattle.sf_layers.proofs.value_indexes.ValueIndexes.note_all.Given as goal
+use Rattle.sf_layers.proofs.value_indexes.ValueIndexes.note_each.Given as goal
 
 -- the values so far are known, and no index lost a pair
 abbrev pub invariant-loop-number : goal.invariant-loop-number
