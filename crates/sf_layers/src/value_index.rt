@@ -12,7 +12,6 @@ ghost use Rattle.sf_layers.specs.ValueIndexes.{Grows, HasAll, HasEach, HasPair, 
 use super::value_key::ValueKey;
 use sf_features::{AttrValue, Feature};
 use std::alloc::{AllocError, Global};
-use std::cmp::Ordering;
 use std::collections::{BTreeMap, BTreeSet};
 use std::marker::Model;
 use std::ops::Bound;

@@ -4,7 +4,6 @@ ghost use Rattle.sf_features.specs.Values.{same_value};
 ghost use Rattle.sf_layers.specs.Found.{is_between, is_from as is_from_of, is_up_to as is_up_to_of};
 
 use sf_features::AttrValue;
-use std::cmp::Ordering;
 
 /// A test of a value.
 pub(crate) trait ValueTest {
