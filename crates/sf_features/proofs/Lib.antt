@@ -6,3 +6,4 @@ pub mod GridLaws
 pub mod Copied
 pub mod SameLaws
 pub mod ValueOrder
+pub mod ValueTotal

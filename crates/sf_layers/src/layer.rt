@@ -14,12 +14,16 @@ ghost use Rattle.sf_features.specs.Columns.{numbered};
 ghost use Rattle.sf_features.specs.Features.{FeatureContent, change_geometry, value_in, with_geometry, with_value, without_value};
 ghost use Rattle.sf_layers.specs.Boxes.{boxes_of};
 ghost use Rattle.sf_layers.specs.Content.{change_feature, column_named, column_place, column_values, empty_layer, feature_of, head_of, with_column, with_feature, with_last_column, with_next_column, with_next_feature, with_next_id, with_values, without_column, without_feature, without_last_column, without_last_feature, without_values};
+ghost use Rattle.sf_layers.specs.Found.{ids_between, ids_with_value as ids_with_value_of};
 ghost use Rattle.sf_layers.specs.WellFormed.{column_end, id_end};
 
 use super::column_moves::{ids_with_value, put_all, take_from};
 use super::column_values::ColumnValues;
+use super::found::{ids_among, ids_among_all};
 use super::index::{extent_of, index_of, move_box, put_box, take_box};
 use super::layer_kind::LayerKind;
+use super::value_indexes::ValueIndexes;
+use super::value_test::{IsBetween, IsSame};
 use sf_features::{AttrValue, Column, ColumnType, Columns, Feature, Text};
 use sf_grid::GridPoint;
 use sf_rtree::{RTree, SpatialIndex};
@@ -31,8 +35,9 @@ use std::marker::Model;
 /// A layer of features by identifier, with its columns in order and the counters of its identifiers
 /// and column numbers.
 ///
-/// It keeps an index of its features' boxes. Where memory runs out the index is lost, and no change is refused;
-/// `reindex` builds it anew. Contracts see a layer as its content, to which the index adds nothing.
+/// It keeps an index of its features' boxes, and one by value of each column for which `index_values` was called. Where memory
+/// runs out an index is lost, and no change is refused; `reindex` and `index_values` build it anew. Contracts see a layer as its
+/// content, to which the indexes add nothing.
 #[derive(Drop)]
 #[derive_where(Debug)]
 pub struct Layer {
@@ -43,11 +48,14 @@ pub struct Layer {
     features: BTreeMap<u32, Feature>,
     #[derive_where(skip)]
     index: Option<RTree>,
+    #[derive_where(skip)]
+    values: ValueIndexes,
 }
 
 impl Model for Layer {
     ghost use Rattle.sf_layers.specs.Boxes.{Agrees};
     ghost use Rattle.sf_layers.specs.Content.{LayerContent};
+    ghost use Rattle.sf_layers.specs.ValueIndexes.{AreNoted};
 
     ghost Value = { LayerContent };
 
@@ -59,7 +67,7 @@ impl Model for Layer {
       features = a.features.entries;
     } };
 
-    ghost invariant = { λ a. Agrees a.index a.features.entries };
+    ghost invariant = { λ a. Agrees a.index a.features.entries × AreNoted a.values a.features.entries };
 }
 
 impl Layer {
@@ -74,6 +82,7 @@ impl Layer {
             columns: Columns::new(alloc),
             features: BTreeMap::new(alloc),
             index: Some(RTree::new(alloc)),
+            values: ValueIndexes::new(alloc),
         }
     }
 
@@ -104,6 +113,7 @@ impl Layer {
             columns,
             features: BTreeMap::new(alloc),
             index: None,
+            values: ValueIndexes::new(alloc),
         })
     }
 
@@ -208,6 +218,70 @@ impl Layer {
         }
     }
 
+    /// Makes the index by value of the column of a number where there is none; where no memory is found, there is none still.
+    pub fn index_values(&mut self, alloc: Global, number: u16)
+        ensures { self.new ≡ self.old }
+    {
+        if self.values.column(number).is_none() {
+            self.values.make(alloc, &self.features, number);
+        }
+    }
+
+    /// Whether there is an index by value of the column of a number: none before `index_values`, and none where it was lost.
+    pub fn has_value_index(&self, number: u16) -> bool {
+        self.values.column(number).is_some()
+    }
+
+    /// The identifiers of the features that have this value in the column of a number, rising: by the column's index where there is
+    /// one, and else by a look at each feature.
+    ///
+    /// # Errors
+    ///
+    /// Out of memory.
+    pub fn ids_with_value(
+        &self,
+        alloc: Global,
+        number: u16,
+        value: &AttrValue,
+    ) -> Result<Vec<u32>, AllocError>
+        ensures { IfOk result (λ ids. ids.items ≡ ids_with_value_of number value.now self.now) }
+    {
+        let test = IsSame { value };
+        match self.values.column(number) {
+            Some(index) => {
+                let ids = index.ids_of(alloc, value)?;
+                ids_among(alloc, &self.features, number, &test, ids.as_slice())
+            }
+            None => ids_among_all(alloc, &self.features, number, &test),
+        }
+    }
+
+    /// The identifiers of the features that have a value between two ends, or at one of them, in the column of a number, rising.
+    /// An end that is None bounds nothing. The order of values is that of `AttrValue::compare`. By the column's index where there
+    /// is one, and else by a look at each feature.
+    ///
+    /// # Errors
+    ///
+    /// Out of memory.
+    pub fn ids_between(
+        &self,
+        alloc: Global,
+        number: u16,
+        from: &Option<AttrValue>,
+        to: &Option<AttrValue>,
+    ) -> Result<Vec<u32>, AllocError>
+        ensures { IfOk result (λ ids. ids.items ≡ ids_between number from.now to.now self.now) }
+    {
+        let test = IsBetween { from, to };
+        match self.values.column_between(number, from, to) {
+            Some(index) => {
+                let ids = index.ids_between(alloc, from, to)?;
+                ids_among(alloc, &self.features, number, &test, ids.as_slice())
+            }
+            None => ids_among_all(alloc, &self.features, number, &test),
+        }
+    }
+
     /// Puts a feature under an identifier that is free.
     ///
     /// # Errors
@@ -220,6 +294,7 @@ impl Layer {
         ensures unchanged { OnErr result (self.new ≡ self.old) }
     {
         let extent = extent_of(&feature);
+        self.values.note_all(alloc, id, feature.values());
         insert_feature(&mut self.features, id, feature)?;
         put_box(alloc, &mut self.index, id, extent);
         Ok(())
@@ -358,6 +433,7 @@ impl Layer {
     /// it takes none.
     pub fn put_value(
         &mut self,
+        alloc: Global,
         id: u32,
         number: u16,
         value: AttrValue,
@@ -372,6 +448,7 @@ impl Layer {
         ensures none { OnErr result
             (IsSomeAnd (feature_of self.old id) (λ feature. value_in number feature ≡ None)) }
     {
+        self.values.note(alloc, id, number, &value);
         match self.features.get_mut(&id) {
             Some(feature) => feature.put_value(number, value),
             None => unreachable!(),
@@ -408,6 +485,7 @@ impl Layer {
         let ids = ids_with_value(alloc, &self.features, number)?;
         let mut values = Vec::with_capacity(alloc, ids.len())?;
         take_from(&mut self.features, number, ids.as_slice(), &mut values);
+        self.values.forget(number);
         Ok(ColumnValues { ids, values })
     }
 
@@ -428,6 +506,7 @@ impl Layer {
         ensures given_back { IfErr result (λ back. back ≡ values) }
         ensures unchanged { OnErr result (self.new ≡ self.old) }
     {
+        self.values.forget(number);
         let ColumnValues { ids, mut values } = values;
         match put_all(&mut self.features, number, ids.as_slice(), &mut values) {
             Ok(()) => Ok(()),
@@ -454,6 +533,7 @@ impl Layer {
                 let before = extent_of(feature);
                 let given = change(feature);
                 move_box(alloc, &mut self.index, id, before, extent_of(feature));
+                self.values.note_all(alloc, id, feature.values());
                 given
             }
             None => unreachable!(),

@@ -1,4 +1,7 @@
-use Rattle.std.proofs.Common.{refl}
+use Rattle.std.proofs.Common.{refl, subst}
+use Rattle.std.specs.List.{AllByRecursion}
+use Rattle.sf_layers.specs.ValueIndexes.{IsKnown}
+use Rattle.sf_layers.proofs.ValuesKept.{noted-written}
 use Rattle.std.specs.Fn.{FnOnceTakesAtMut}
 use Rattle.sf_layers.proofs.Boxes.{agrees-changed, box-there, boxes-rise}
 use Rattle.sf_layers.proofs.Changed.{feature-changed, feature-found, holds-there}
@@ -12,15 +15,20 @@ change-given-requires g c =
     (feature-found (the_view c.self.inside) c.args.self.now c.args.id c.in-Some.feature.now c.self.view_is c.in-Some.ensures.value) c.requires _ refl
 
 pub move_box-requires-clause-there : goal.move_box-requires-clause-there
-move_box-requires-clause-there g c = box-there c.self.inside.index c.self.inside.features.entries c.args.id c.in-Some.feature.now c.extent_of-before.result c.self.invariant c.in-Some.ensures.value c.extent_of-before.ensures
+move_box-requires-clause-there g c = box-there c.self.inside.index c.self.inside.features.entries c.args.id c.in-Some.feature.now c.extent_of-before.result c.self.invariant.0 c.in-Some.ensures.value c.extent_of-before.ensures
 
 pub move_box-requires-clause-rising : goal.move_box-requires-clause-rising
-move_box-requires-clause-rising g c = boxes-rise c.self.inside.index c.self.inside.features.entries c.self.invariant c.in-Some.ensures.ordered
+move_box-requires-clause-rising g c = boxes-rise c.self.inside.index c.self.inside.features.entries c.self.invariant.0 c.in-Some.ensures.ordered
 
 pub invariant_of-self : goal.invariant_of-self
 invariant_of-self g c =
-    agrees-changed c.self.inside.index c.move_box.new.index c.self.inside.features.entries (c.get_mut.follows.lender c.change-given.new.arg2).entries c.args.id c.change-given.new.arg2 c.extent_of.result
-    c.self.invariant (c.get_mut.follows.holds c.change-given.new.arg2).0 c.extent_of.ensures c.move_box.ensures
+    let features = c.self.inside.features.entries in
+    let after = c.change-given.new.arg2 in (
+      agrees-changed c.self.inside.index c.move_box.new.index features (c.get_mut.follows.lender after).entries c.args.id after c.extent_of.result
+          c.self.invariant.0 (c.get_mut.follows.holds after).0 c.extent_of.ensures c.move_box.ensures,
+      noted-written c.self.inside.values c.note_all.new.self features (c.get_mut.follows.lender after).entries c.args.id after c.note_all.ensures.kept c.self.invariant.1
+          (subst (AllByRecursion (λ e. IsKnown c.note_all.new.self c.args.id e.0 e.1)) c.values.ensures c.note_all.ensures.known) (c.get_mut.follows.holds after).0,
+    )
 
 pub returns : goal.returns
 returns g c =

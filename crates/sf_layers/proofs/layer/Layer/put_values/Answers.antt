@@ -8,6 +8,7 @@ use Rattle.sf_layers.specs.Moves.{put_each}
 use Rattle.sf_layers.proofs.Outcomes.{OnOk-is, OnOk-not, by_outcome}
 use Rattle.sf_layers.proofs.Boxes.{agrees-on, boxes_of-put_each}
 use Rattle.sf_layers.proofs.Values.{with_values-put}
+use Rattle.sf_layers.proofs.ValuesKept.{noted-on, noted-put_each}
 use Rattle.sf_layers.specs.contracts.layer.Layer.{the_view}
 use Rattle.sf_layers.proofs.layer.Layer.put_values.Goals as goal
 use Rattle.sf_layers.proofs.layer.Layer.put_values.Goals.{in-Ok, in-Err}
@@ -33,6 +34,13 @@ returns-clause-put c = elim c.match-put_all.branch [
 pub invariant_of-self : goal.invariant_of-self
 invariant_of-self c =
     let features = c.self.inside.features.entries in
+    let values = zip c.as_slice.result.now c.values.inside.values.items in
     by_outcome c.put_all.result c.put_all.ensures.put c.put_all.ensures.kept
-    (λ is. agrees-on c.self.inside.index features c.put_all.new.features.entries c.self.invariant (ap boxes_of is ∙ boxes_of-put_each c.args.number (zip c.as_slice.result.now c.values.inside.values.items) features))
-    (λ is. agrees-on c.self.inside.index features c.put_all.new.features.entries c.self.invariant (ap boxes_of is))
+    (λ is. (
+      agrees-on c.self.inside.index features c.put_all.new.features.entries c.self.invariant.0 (ap boxes_of is ∙ boxes_of-put_each c.args.number values features),
+      noted-put_each c.self.inside.values c.forget.new.self features c.put_all.new.features.entries c.args.number values c.forget.ensures.kept c.forget.ensures.gone c.self.invariant.1 is,
+    ))
+    (λ is. (
+      agrees-on c.self.inside.index features c.put_all.new.features.entries c.self.invariant.0 (ap boxes_of is),
+      noted-on c.self.inside.values c.forget.new.self features c.put_all.new.features.entries c.forget.ensures.kept c.self.invariant.1 is,
+    ))

@@ -1,4 +1,7 @@
-use Rattle.std.proofs.Common.{ap}
+use Rattle.std.proofs.Common.{ap, Some}
+use Rattle.sf_layers.proofs.ColumnMoves.{feature-given}
+use Rattle.sf_layers.proofs.ValueNotes.{kept-itself}
+use Rattle.sf_layers.proofs.ValuesKept.{noted-no_value, noted-written}
 use Rattle.sf_layers.proofs.Boxes.{agrees-written}
 use Rattle.sf_features.specs.Features.{without_value}
 use Rattle.sf_layers.proofs.Changed.{feature-changed}
@@ -12,5 +15,11 @@ returns-clause-rest c =
 
 pub invariant_of-self : goal.invariant_of-self
 invariant_of-self c =
-    agrees-written c.self.inside.index c.self.inside.features.entries (c.get_mut.follows.lender c.take_value.new.self).entries c.args.id c.in-Some.feature.now c.take_value.new.self
-    c.self.invariant c.in-Some.ensures.value (c.get_mut.follows.holds c.take_value.new.self).0 (ap (λ f. f.geometry) c.take_value.ensures.rest)
+    let features = c.self.inside.features.entries in
+    let found = feature-given features c.args.id (Some c.in-Some.feature.now) c.in-Some.ensures.value in (
+      agrees-written c.self.inside.index features (c.get_mut.follows.lender c.take_value.new.self).entries c.args.id c.in-Some.feature.now c.take_value.new.self
+          c.self.invariant.0 c.in-Some.ensures.value (c.get_mut.follows.holds c.take_value.new.self).0 (ap (λ f. f.geometry) c.take_value.ensures.rest),
+      noted-written c.self.inside.values c.self.inside.values features (c.get_mut.follows.lender c.take_value.new.self).entries c.args.id c.take_value.new.self (kept-itself c.self.inside.values) c.self.invariant.1
+          (noted-no_value c.self.inside.values features c.args.id c.args.number c.in-Some.feature.now c.take_value.new.self c.self.invariant.1 found c.take_value.ensures.rest)
+          (c.get_mut.follows.holds c.take_value.new.self).0,
+    )

@@ -10,6 +10,7 @@ use Rattle.sf_layers.specs.Moves.{IsTaking, values_in}
 use Rattle.sf_layers.proofs.ColumnMoves.{IsTaking-all, length-parts, rising-values_in}
 use Rattle.sf_layers.proofs.Boxes.{agrees-on, boxes_of-bare}
 use Rattle.sf_layers.proofs.Values.{bare}
+use Rattle.sf_layers.proofs.ValuesKept.{noted-bare}
 use Rattle.sf_layers.specs.contracts.layer.Layer.{the_view}
 use Rattle.sf_layers.proofs.layer.Layer.take_values.Goals as goal
 use Rattle.sf_layers.proofs.layer.Layer.take_values.Goals.{After-as_slice, After-take_from}
@@ -60,4 +61,7 @@ pub invariant_of-self : goal.invariant_of-self
 invariant_of-self c =
     let at = goal.at.invariant_of-self c in
     let both = taken at.After-take_from (taking at.After-as_slice) in
-    agrees-on c.self.inside.index c.self.inside.features.entries c.take_from.new.features.entries c.self.invariant (ap boxes_of both.0 ∙ boxes_of-bare c.args.number c.self.inside.features.entries)
+    let features = c.self.inside.features.entries in (
+      agrees-on c.self.inside.index features c.take_from.new.features.entries c.self.invariant.0 (ap boxes_of both.0 ∙ boxes_of-bare c.args.number features),
+      noted-bare c.self.inside.values c.forget.new.self features c.take_from.new.features.entries c.args.number c.forget.ensures.kept c.self.invariant.1 both.0,
+    )
