@@ -15,6 +15,7 @@ use Rattle.sf_features.specs.Features.{FeatureContent, value_in}
 use Rattle.sf_features.specs.Values.{same_value}
 use Rattle.sf_features.proofs.SameLaws.{same-itself, same-value}
 use Rattle.sf_layers.specs.Content.{Content, LayerContent, column_named, column_place, feature_of, layer_at, layer_of, place_of}
+use Rattle.sf_layers.specs.Found.{ids_with_value}
 use Rattle.sf_layers.specs.WellFormed.{IsWellFormed}
 use Rattle.sf_layers.proofs.Columns.{column_at_place}
 use Rattle.sf_patches.specs.Merged.{is_of_id}
@@ -35,7 +36,7 @@ use Rattle.sf_rules.specs.Breaks.{least_from}
 use Rattle.sf_rules.specs.ColumnLooks.{IsInColumn, IsInLayerOrMissing, double_of, doubles_behind, doubles_beside, is_other, lacking_by, values_behind, values_beside, values_looked_at, values_of_entry, values_of_slot, values_of_some}
 use Rattle.sf_rules.specs.Leaving.{is_leaving}
 use Rattle.sf_rules.specs.Looks.{staying}
-use Rattle.sf_rules.specs.Rules.{alone_break, break_in, break_of_values, break_on, breaks_in, doubles_found, first_of, has_value, ids_with_value, is_double, lacks_value, pair_break}
+use Rattle.sf_rules.specs.Rules.{alone_break, break_in, break_of_values, break_on, breaks_in, doubles_found, first_of, has_value, is_double, lacks_value, pair_break}
 use Rattle.sf_rules.specs.Underway.{CanLeave, ComesOf}
 use Rattle.sf_rules.proofs.ChangeLaws.{alone-begin, first-pair}
 use Rattle.sf_rules.proofs.EntryLaws.{ArePair, member, none-passes, pair-of, pairs_of, there}

@@ -5,6 +5,7 @@ use Rattle.sf_features.specs.declared.attr_value.AttrValue.{AttrValue}
 use Rattle.sf_features.specs.declared.column.Column.{Column}
 use Rattle.sf_features.specs.Features.{FeatureContent, value_in}
 use Rattle.sf_layers.specs.Content.{Content, LayerContent, column_named, layer_of, place_of}
+use Rattle.sf_layers.specs.Found.{ids_with_value}
 use Rattle.sf_layers.specs.WellFormed.{IsWellFormed}
 use Rattle.sf_patches.specs.declared.slot.Slot.{Slot}
 use Rattle.sf_patches.specs.declared.slot.Slot.TheVariants.{Counter, State}
@@ -16,7 +17,6 @@ use Rattle.sf_rules.specs.declared.rule.Demand.TheVariants.{Required, Unique}
 use Rattle.sf_rules.specs.declared.rule.ValueRule.{ValueRule}
 use Rattle.sf_rules.specs.Leaving.{is_leaving}
 use Rattle.sf_rules.specs.Looks.{staying}
-use Rattle.sf_rules.specs.Rules.{ids_with_value}
 
 -- the column of a rule in a content, with the features that are still to be removed
 pub record IsInColumn (content : Content) (rule : ValueRule) (leaving : List Slot) (column : InColumn) : Type 0 where

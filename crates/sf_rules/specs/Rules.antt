@@ -9,6 +9,7 @@ use Rattle.sf_features.specs.declared.column.Column.{Column}
 use Rattle.sf_features.specs.Features.{FeatureContent, value_in}
 use Rattle.sf_features.specs.Values.{same_value}
 use Rattle.sf_layers.specs.Content.{LayerContent, Content, column_named, layer_of}
+use Rattle.sf_layers.specs.Found.{has_value_that}
 use Rattle.sf_joins.specs.Joins.{is_pair, pairs_found}
 use Rattle.sf_rules.specs.declared.rule.Rule.{Rule}
 use Rattle.sf_rules.specs.declared.rule.LayerRule.{LayerRule}
@@ -61,11 +62,7 @@ break_between content rule = break_by rule (layer_of content rule.first) (layer_
 
 -- whether a feature has this value in the column of a number
 abbrev pub has_value : ℕ → AttrValue → FeatureContent → Bool
-has_value number value feature = option_map_or (same_value value) (value_in number feature) false
-
--- the features of a layer that have it, rising
-abbrev pub ids_with_value : ℕ → AttrValue → LayerContent → List ℕ
-ids_with_value number value layer = keys_of (filter (λ entry. has_value number value entry.1) layer.features)
+has_value number value feature = has_value_that (same_value value) number feature
 
 -- whether two features have the same value there, the one with the lesser identifier first
 abbrev pub is_double : ℕ → ℕ × FeatureContent → ℕ × FeatureContent → Bool

@@ -6,12 +6,12 @@ ghost use Rattle.sf_layers.specs.Content.{column_named};
 ghost use Rattle.sf_rules.specs.declared.breaks.Break.TheVariants.{Pair};
 ghost use Rattle.sf_rules.specs.Breaks.{least_from};
 ghost use Rattle.sf_rules.specs.ColumnLooks.{IsInColumnOrMissing, double_of, doubles_behind, doubles_beside, is_other as is_other_of, lacking_by, values_at, values_behind, values_beside, values_looked_at, values_of_entry, values_of_slot, values_of_some};
-ghost use Rattle.sf_rules.specs.Rules.{first_of, has_value as has_value_of, ids_with_value as ids_with_value_of};
+ghost use Rattle.sf_rules.specs.Rules.{first_of};
 
 use super::between::staying;
 use super::breaks::{Break, lesser};
 use super::leaving::Leaving;
-use super::rule::{Demand, ValueRule};
+use super::rule::{Demand, Rule, Says, ValueRule};
 use sf_layers::{AttrValue, Column, Feature, Layer, Store};
 use sf_patches::Slot;
 use std::alloc::{AllocError, Global};
@@ -119,7 +119,7 @@ fn first_double(
     let Some(value) = value else {
         return Ok(None);
     };
-    let ids = ids_with_value(alloc, column.layer, column.number, value)?;
+    let ids = column.layer.ids_with_value(alloc, column.number, value)?;
     Ok(first_behind(id, ids.as_slice()))
 }
 
@@ -255,7 +255,7 @@ fn least_double(
     let Some(value) = value else {
         return Ok(least);
     };
-    let ids = ids_with_value(alloc, column.layer, column.number, value)?;
+    let ids = column.layer.ids_with_value(alloc, column.number, value)?;
     Ok(least_with(column, id, ids.as_slice(), least))
 }
 
@@ -305,30 +305,37 @@ fn least_lacking(id: u32, value: Option<&AttrValue>, least: Option<Break>) -> Op
     }
 }
 
-/// The features that have a value in the column of a number, rising.
-fn ids_with_value(
-    alloc: Global,
-    layer: &Layer,
-    number: u16,
-    value: &AttrValue,
-) -> Result<Vec<u32>, AllocError>
-    ensures { IfOk result (λ ids. ids.items ≡ ids_with_value_of number value.now layer.now) }
+/// Makes the index that a rule looks into, where there is none: that by value of a column whose values are to be unique. Where no
+/// memory is found, features are looked at one by one.
+pub fn make_index(alloc: Global, store: &mut Store, rule: &Rule)
+    ensures { store.new ≡ store.old }
 {
-    let mut ids = Vec::new(alloc);
-    for (id, feature) in layer.features() {
-        if has_value(feature, number, value) {
-            ids.push(*id)?;
-        }
-    }
-    Ok(ids)
+    let Some((place, number)) = unique_column(store, rule) else {
+        return;
+    };
+    store.index_values(alloc, place, number);
 }
 
-/// Whether a feature has this value in the column of a number.
-fn has_value(feature: &Feature, number: u16, value: &AttrValue) -> bool
-    ensures { result ≡ has_value_of number value.now feature.now }
-{
-    match feature.value(number) {
-        Some(other) => value.is_same(other),
-        None => false,
+/// Whether a rule can be looked at without a pass over its layer for each feature: it needs no index by value, or has it.
+pub fn has_index(store: &Store, rule: &Rule) -> bool {
+    match unique_column(store, rule) {
+        Some((place, number)) => match store.layer_at(place) {
+            Some((_, layer)) => layer.has_value_index(number),
+            None => true,
+        },
+        None => true,
     }
+}
+
+/// The place of the layer and the number of the column whose values are to be unique, where a rule says so and both are there.
+fn unique_column(store: &Store, rule: &Rule) -> Option<(usize, u16)> {
+    let Says::OfValues(rule) = &rule.says else {
+        return None;
+    };
+    if rule.demand != Demand::Unique {
+        return None;
+    }
+    let place = store.place(rule.layer.as_str())?;
+    let column = column_by_name(store.layer(rule.layer.as_str())?, rule.column.as_str())?;
+    Some((place, column.number))
 }

@@ -9,6 +9,7 @@ ghost use Rattle.sf_patches.specs.Patches.{patched};
 ghost use Rattle.sf_rules.specs.declared.exchanging.NotExchanged.TheVariants.{Memory};
 
 use super::breaks::Broken;
+use super::column::make_index;
 use super::near::first_broken_near;
 use super::rule::Rule;
 use sf_layers::Store;
@@ -41,6 +42,36 @@ impl From<AllocError> for NotExchanged {
 ///
 /// The first rule that would be broken, or out of memory; all is then as it was.
 pub fn exchange_under(
+    alloc: Global,
+    store: &mut Store,
+    rules: &[Rule],
+    halves: &mut Halves,
+) -> Result<(), NotExchanged>
+    requires fits { FitsHalves store.old halves.old }
+    requires leaves { RemovesOnly halves.old.removing }
+    requires held { first_broken store.old rules.now ≡ None }
+    ensures exchanged { OnOk result (store.new ≡ after_halves store.old halves.old) }
+    ensures back { OnOk result (halves.new ≡ back_halves store.old halves.old) }
+    ensures hold { OnOk result (first_broken store.new rules.now ≡ None) }
+    ensures refused { IfErr result (IsRefusedUnder (after_halves store.old halves.old) rules.now) }
+    ensures unchanged { OnErr result (store.new ≡ store.old) }
+    ensures kept { OnErr result (halves.new ≡ halves.old) }
+{
+    make_indexes(alloc, store, rules);
+    exchange_looked_at(alloc, store, rules, halves)
+}
+
+/// Makes the indexes that rules look into, where there are none.
+fn make_indexes(alloc: Global, store: &mut Store, rules: &[Rule])
+    ensures { store.new ≡ store.old }
+{
+    for rule in rules {
+        make_index(alloc, store, rule);
+    }
+}
+
+/// The same, whatever indexes there are.
+fn exchange_looked_at(
     alloc: Global,
     store: &mut Store,
     rules: &[Rule],

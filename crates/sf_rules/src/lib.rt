@@ -15,6 +15,7 @@ mod rule;
 mod whole;
 
 pub use breaks::{Break, Broken};
+pub use column::{has_index, make_index};
 pub use exchanging::{NotExchanged, exchange_under};
 pub use rule::{Demand, Form, LayerRule, Rule, Says, ValueRule};
 pub use sf_query::Ask;

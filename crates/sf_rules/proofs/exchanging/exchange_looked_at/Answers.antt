@@ -1,6 +1,6 @@
 use Rattle.sf_patches.proofs.ExchangeLaws.{ok-then}
 use Rattle.sf_patches.proofs.HalvesLaws.{content-back, fits-back, fits-growing, fits-removing, grows-back, halves-back}
-use Rattle.sf_rules.proofs.exchanging.exchange_under.Goals as goal
+use Rattle.sf_rules.proofs.exchanging.exchange_looked_at.Goals as goal
 
 pub exchange-requires : goal.exchange-requires
 exchange-requires c = fits-growing c.args.store.now c.args.halves.now c.requires.fits
