@@ -14,7 +14,7 @@ use super::rules::Rules;
 use super::undo::Undo;
 use sf_groups::Group;
 use sf_layers::Store;
-use sf_rules::Rule;
+use sf_rules::{Rule, make_index};
 use sf_steps::Edit;
 use std::alloc::Global;
 use std::marker::Model;
@@ -123,8 +123,34 @@ impl Ruled {
         ensures given_back { IfErr result (λ e. e.0 ≡ rule) }
         ensures unchanged { OnErr result (self.new ≡ self.old) }
     {
+        self.make_index(alloc, &rule);
+        self.add_looked_up(alloc, rule)
+    }
+
+    // Makes the index that a rule looks into, where there is none.
+    fn make_index(&mut self, alloc: Global, rule: &Rule)
+        ensures { self.new ≡ self.old }
+    {
+        make_index(alloc, &mut self.store, rule);
+    }
+
+    // Adds a rule, whatever indexes there are.
+    fn add_looked_up(&mut self, alloc: Global, rule: Rule) -> Result<Undo, (Rule, Refusal)>
+        ensures accepted { IfOk result (λ undo. IsLed self.old (ruled_step self.old (AddRule rule)) undo self.new) }
+        ensures refused { IfErr result (λ e. IsRefusedAs (ruled_step self.old (AddRule rule)) e.1) }
+        ensures given_back { IfErr result (λ e. e.0 ≡ rule) }
+        ensures unchanged { OnErr result (self.new ≡ self.old) }
+    {
         self.rules.add(alloc, &self.store, rule)?;
         Ok(Undo::AddedRule)
+    }
+
+    /// Makes the index by value of a column of the layer at a place, by the column's number, where there is none. Where no memory
+    /// is found, or no layer is there, nothing is done.
+    pub fn index_values(&mut self, alloc: Global, place: usize, number: u16)
+        ensures { self.new ≡ self.old }
+    {
+        self.store.index_values(alloc, place, number);
     }
 
     /// Drops the rule of a name.

@@ -9,7 +9,7 @@ ghost use Rattle.sf_ruled_store.specs.Undos.{changes_column as changes_column_of
 
 use super::refusal::Refusal;
 use sf_layers::{Layer, Store, Text, is_name};
-use sf_rules::{Broken, LayerRule, Rule, Says, ValueRule, first_break};
+use sf_rules::{Broken, LayerRule, Rule, Says, ValueRule, first_break, has_index};
 use sf_steps::Edit;
 use std::alloc::{AllocError, Global};
 use std::marker::Model;
@@ -190,6 +190,10 @@ impl Rules {
         let place = self.as_slice().len();
         if place >= RULES_MAX {
             return Err(Refusal::TooManyRules);
+        }
+        // Without its index a rule takes a pass over its layer for each feature.
+        if !has_index(store, rule) {
+            return Err(Refusal::Memory);
         }
         match first_break(alloc, store, rule)? {
             None => Ok(()),

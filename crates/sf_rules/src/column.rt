@@ -220,7 +220,14 @@ fn least_of(
     ensures { IfOk result (λ found. found ≡ least_from least
         (values_of_some demand column.now id (Some feature.now))) }
 {
-    least_by_value(alloc, demand, column, id, feature.value(column.number), least)
+    least_by_value(
+        alloc,
+        demand,
+        column,
+        id,
+        feature.value(column.number),
+        least,
+    )
 }
 
 /// The same of a feature with this value, or with none.
@@ -260,12 +267,7 @@ fn least_double(
 }
 
 /// The least of the pairs of an identifier with these, and of what was the least before.
-fn least_with(
-    column: &InColumn<'_>,
-    id: u32,
-    others: &[u32],
-    least: Option<Break>,
-) -> Option<Break>
+fn least_with(column: &InColumn<'_>, id: u32, others: &[u32], least: Option<Break>) -> Option<Break>
     ensures { result ≡ least_from least
         (map (double_of id) (filter (is_other_of column.now id) others.now)) }
 {
