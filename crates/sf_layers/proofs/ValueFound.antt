@@ -1,5 +1,5 @@
 -- What is found among identifiers that have all is what a look at each feature finds.
-use Rattle.std.specs.Prelude.{◌≡◌, ℕ, Bool, true, false, ◌&&◌, ◌||◌, cond, List, [], ◌∷◌, filter, Option, None, Some, IfSome, IsTrue, nat_eq, nat_lt}
+use Rattle.std.specs.Prelude.{◌≡◌, ℕ, Bool, true, false, ◌&&◌, ◌||◌, cond, List, [], ◌∷◌, filter, Option, None, Some, IfSome, IsSomeAnd, IsTrue, nat_eq, nat_lt}
 use Rattle.std.specs.declared.cmp.Ordering.TheVariants.{Less}
 use Rattle.std.specs.Cmp.{nat_eq_equiv}
 use Rattle.std.specs.List.{AllByRecursion, Contains, list_any}
@@ -15,7 +15,7 @@ use Rattle.sf_features.specs.declared.attr_value.AttrValue.{AttrValue}
 use Rattle.sf_features.specs.Features.{FeatureContent, value_in}
 use Rattle.sf_layers.specs.Found.{has_value_that}
 use Rattle.sf_layers.specs.Moves.{Features}
-use Rattle.sf_layers.specs.ValueIndexes.{AreNoted, HasEach, HasPair, Indexes, IsKnown, Pairs}
+use Rattle.sf_layers.specs.ValueIndexes.{AreListed, AreNoted, HasEach, HasPair, Indexes, IsKnown, Lists, Pairs}
 use Rattle.sf_layers.proofs.ValuesKept.{all-found, noted-found}
 
 -- ---- rising numbers that are the same set are the same list
@@ -141,7 +141,7 @@ module _ (test : FeatureContent → Bool) where
 
 -- ---- what an index finds
 
-pub all-there : (number : ℕ) (test : AttrValue → Bool) (indexes : Indexes) (pairs : Pairs) (features : Features) (ids : List ℕ) → AreNoted indexes features → lookup (nat_eq number) indexes ≡ Some pairs
+all-there : (number : ℕ) (test : AttrValue → Bool) (indexes : Indexes) (pairs : Pairs) (features : Features) (ids : List ℕ) → AreNoted indexes features → lookup (nat_eq number) indexes ≡ Some pairs
     → HasEach test pairs ids → (id : ℕ) → (feature : FeatureContent) → lookup (nat_eq id) features ≡ Some feature → IsTrue (has_value_that test number feature) → Contains ids id
 all-there number test indexes pairs features ids noted there each id feature found has = by (value_in number feature) refl has
   where
@@ -150,3 +150,19 @@ all-there number test indexes pairs features ids noted there each id feature fou
     by (Some value) is has =
         let known : IsKnown indexes id number value = all-found (λ e. IsKnown indexes id e.0 e.1) number value feature.values (noted-found indexes features id feature noted found) is in
         each value id (subst (λ o. IfSome o (λ p. HasPair p value id)) there known) has
+
+pub listed-rise : (number : ℕ) (test : AttrValue → Bool) (indexes : Indexes) (ids : List ℕ) → AreListed test number indexes ids → IsStrictlySortedBy nat_cmp ids
+listed-rise number test indexes ids listed = by (lookup (nat_eq number) indexes) listed
+  where
+    by : (o : Option Pairs) → IsSomeAnd o (λ pairs. Lists test pairs ids) → IsStrictlySortedBy nat_cmp ids
+    by None has = absurd has
+    by (Some pairs) has = has.0
+
+pub listed-there : (number : ℕ) (test : AttrValue → Bool) (indexes : Indexes) (features : Features) (ids : List ℕ) → AreNoted indexes features → AreListed test number indexes ids
+    → (id : ℕ) → (feature : FeatureContent) → lookup (nat_eq id) features ≡ Some feature → IsTrue (has_value_that test number feature) → Contains ids id
+listed-there number test indexes features ids noted listed = by (lookup (nat_eq number) indexes) refl listed
+  where
+    by : (o : Option Pairs) → lookup (nat_eq number) indexes ≡ o → IsSomeAnd o (λ pairs. Lists test pairs ids)
+        → (id : ℕ) → (feature : FeatureContent) → lookup (nat_eq id) features ≡ Some feature → IsTrue (has_value_that test number feature) → Contains ids id
+    by None there has = absurd has
+    by (Some pairs) there has = all-there number test indexes pairs features ids noted there has.1

@@ -108,7 +108,7 @@ noted-kept old new features kept = all_weaker (λ e. IsNoted old e.0 e.1) (λ e.
 same_test : (number q : ℕ) → is_at (nat_cmp number) q ≡ nat_eq number q
 same_test number q = grind (arith, nat_tests)
 
-same_lookup : {X : Type 0} (q : ℕ) (es : List (ℕ × X)) → lookup (is_at (nat_cmp q)) es ≡ lookup (nat_eq q) es
+pub same_lookup : {X : Type 0} (q : ℕ) (es : List (ℕ × X)) → lookup (is_at (nat_cmp q)) es ≡ lookup (nat_eq q) es
 same_lookup q [] = refl
 same_lookup q (e ∷ es) = ap (λ b. cond b (Some e.1) (lookup (is_at (nat_cmp q)) es)) (same_test q e.0) ∙ ap (cond (nat_eq q e.0) (Some e.1)) (same_lookup q es)
 

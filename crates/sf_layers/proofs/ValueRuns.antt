@@ -1,9 +1,10 @@
 -- Which pairs of an index are found between two ends.
-use Rattle.std.specs.Prelude.{◌≡◌, ℕ, ◌≤◌, Bool, true, false, not, ◌||◌, List, [], ◌∷◌, map, filter, Option, None, Some, Result, Ok, Err, IfOk, nat_eq}
+use Rattle.std.specs.Prelude.{◌≡◌, ℕ, ◌≤◌, Bool, true, false, not, ◌||◌, List, [], ◌∷◌, map, filter, Option, None, Some, Result, Ok, Err, IfOk, IfSome, IsSomeAnd, nat_eq}
 use Rattle.std.specs.BTreeMap.{is_at}
 use Rattle.std.specs.BTreeMap.Range.{IsLeBy, IsLtBy, is_from_start, is_past_end, range_contains}
 use Rattle.std.specs.Bound.{IsForward}
 use Rattle.std.specs.List.{Contains, list_any}
+use Rattle.std.specs.Map.{lookup}
 use Rattle.std.specs.List.Sorted.{IsStrictlySortedBy}
 use Rattle.std.specs.Ordering.{is_eq, is_gt, is_le, is_lt, nat_cmp, ordering_reverse, ordering_then}
 use Rattle.std.specs.declared.cmp.Ordering.{Ordering}
@@ -22,7 +23,7 @@ use Rattle.sf_features.proofs.SameLaws.{same-value}
 use Rattle.sf_features.proofs.ValueTotal.{values_total}
 use Rattle.sf_layers.specs.Found.{is_between, is_from, is_up_to}
 use Rattle.sf_layers.specs.KeyOrder.{keys_total}
-use Rattle.sf_layers.specs.ValueIndexes.{HasEach, Pairs, are_apart, end_at, id_max, key, key_cmp, start_at}
+use Rattle.sf_layers.specs.ValueIndexes.{AreListed, HasEach, HasRun, Indexes, Lists, Pairs, are_apart, end_at, id_max, key, key_cmp, start_at}
 use Rattle.sf_layers.specs.declared.value_key.ValueKey.{ValueKey}
 
 pub IfOk-map : {T E : Type 0} (P Q : T → Type 0) (r : Result T E) → ((x : T) → P x → Q x) → IfOk r P → IfOk r Q
@@ -148,3 +149,26 @@ none-apart (Some from) None pairs ids apart value id has between = absurd (true�
 pub none-rise : IsStrictlySortedBy nat_cmp []
 unfolding IsStrictlySortedBy
 none-rise = tt
+
+-- ---- what is found, if anything is
+
+pub found-map : {T E : Type 0} (P Q : T → Type 0) (r : Result (Option T) E) → ((x : T) → P x → Q x) → IfOk r (λ o. IfSome o P) → IfOk r (λ o. IfSome o Q)
+found-map P Q (Ok (Some x)) f p = f x p
+found-map P Q (Ok None) f p = tt
+found-map P Q (Err e) f p = p
+
+pub lists-same : (value : AttrValue) (start end : ValueKey) (pairs : Pairs) (ids : List ℕ) → start ≡ key value 0 → end ≡ key value id_max → HasRun (Included start) (Included end) pairs ids
+    → Lists (same_value value) pairs ids
+lists-same value start end pairs ids starts ends run = (run.0, each-same value start end pairs ids starts ends run.1)
+
+pub lists-between : (from to : Option AttrValue) (start end : Bound ValueKey) (pairs : Pairs) (ids : List ℕ) → start ≡ start_at from → end ≡ end_at to → HasRun start end pairs ids
+    → Lists (is_between from to) pairs ids
+lists-between from to start end pairs ids starts ends run = (run.0, each-between from to start end pairs ids starts ends run.1)
+
+pub lists-none : (from to : Option AttrValue) (pairs : Pairs) (ids : List ℕ) → are_apart from to ≡ true → ids ≡ [] → Lists (is_between from to) pairs ids
+lists-none from to pairs ids apart none = (subst (IsStrictlySortedBy nat_cmp) (sym none) none-rise, none-apart from to pairs ids apart)
+
+-- what an index lists, of the indexes that it is one of
+pub listed : (test : AttrValue → Bool) (number : ℕ) (indexes : Indexes) (pairs : Pairs) (ids : List ℕ) → Some pairs ≡ lookup (nat_eq number) indexes → Lists test pairs ids
+    → AreListed test number indexes ids
+listed test number indexes pairs ids found lists = subst (λ o. IsSomeAnd o (λ p. Lists test p ids)) found lists

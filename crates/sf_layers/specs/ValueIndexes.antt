@@ -1,8 +1,10 @@
 -- Internal: who wants to trust the program need not read this file.
 -- The indexes of a layer by the values of its features: what they have of the features, at least.
-use Rattle.std.specs.Prelude.{◌≡◌, ℕ, ◌≤◌, Bool, false, List, Option, None, Some, IfSome, IsSomeAnd, IsTrue, nat_eq}
+use Rattle.std.specs.Prelude.{◌≡◌, ℕ, ◌≤◌, Bool, false, List, Option, None, Some, IfSome, IsSomeAnd, IsTrue, nat_eq, map, filter}
 use Rattle.std.specs.BTreeMap.{is_at}
+use Rattle.std.specs.BTreeMap.Range.{range_contains}
 use Rattle.std.specs.List.{AllByRecursion, Contains, list_any}
+use Rattle.std.specs.List.Sorted.{IsStrictlySortedBy}
 use Rattle.std.specs.Map.{lookup}
 use Rattle.std.specs.Ordering.{is_gt, nat_cmp, on, then_cmp}
 use Rattle.std.specs.declared.ops.Bound.{Bound}
@@ -50,6 +52,15 @@ HasAll number pairs features = AllByRecursion (λ entry. HasThose number pairs e
 abbrev pub HasEach : (AttrValue → Bool) → Pairs → List ℕ → Type 0
 HasEach test pairs ids = (value : AttrValue) → (id : ℕ) → HasPair pairs value id → IsTrue (test value) → Contains ids id
 
+-- identifiers that rise, among them those of all these pairs
+abbrev pub Lists : (AttrValue → Bool) → Pairs → List ℕ → Type 0
+Lists test pairs ids = IsStrictlySortedBy nat_cmp ids × HasEach test pairs ids
+
+-- identifiers that rise, among them those of the pairs between two bounds
+abbrev pub HasRun : Bound ValueKey → Bound ValueKey → Pairs → List ℕ → Type 0
+HasRun start end pairs ids =
+    IsStrictlySortedBy nat_cmp ids × ((id : ℕ) → Contains (map (λ pair. pair.id) (filter (range_contains key_cmp start end) pairs)) id → Contains ids id)
+
 -- indexes by column number
 abbrev pub Indexes : Type 0
 Indexes = List (ℕ × Pairs)
@@ -57,6 +68,10 @@ Indexes = List (ℕ × Pairs)
 -- the index of a column, where there is one, has the pair of this value and this identifier
 abbrev pub IsKnown : Indexes → ℕ → ℕ → AttrValue → Type 0
 IsKnown indexes id number value = IfSome (lookup (nat_eq number) indexes) (λ pairs. HasPair pairs value id)
+
+-- a column has an index, and identifiers are what that lists of the pairs whose value passes a test
+abbrev pub AreListed : (AttrValue → Bool) → ℕ → Indexes → List ℕ → Type 0
+AreListed test number indexes ids = IsSomeAnd (lookup (nat_eq number) indexes) (λ pairs. Lists test pairs ids)
 
 -- indexes have the pairs of a feature's values
 abbrev pub IsNoted : Indexes → ℕ → FeatureContent → Type 0

@@ -222,18 +222,18 @@ impl Layer {
     pub fn index_values(&mut self, alloc: Global, number: u16)
         ensures { self.new ≡ self.old }
     {
-        if self.values.column(number).is_none() {
+        if !self.values.has_column(number) {
             self.values.make(alloc, &self.features, number);
         }
     }
 
     /// Whether there is an index by value of the column of a number: none before `index_values`, and none where it was lost.
     pub fn has_value_index(&self, number: u16) -> bool {
-        self.values.column(number).is_some()
+        self.values.has_column(number)
     }
 
     /// The identifiers of the features that have this value in the column of a number, rising: by the column's index where there is
-    /// one, and else by a look at each feature.
+    /// one and the features are few, and else by a look at each feature.
     ///
     /// # Errors
     ///
@@ -247,18 +247,15 @@ impl Layer {
         ensures { IfOk result (λ ids. ids.items ≡ ids_with_value_of number value.now self.now) }
     {
         let test = IsSame { value };
-        match self.values.column(number) {
-            Some(index) => {
-                let ids = index.ids_of(alloc, value)?;
-                ids_among(alloc, &self.features, number, &test, ids.as_slice())
-            }
+        match self.values.ids_of(alloc, number, value)? {
+            Some(ids) => ids_among(alloc, &self.features, number, &test, ids.as_slice()),
             None => ids_among_all(alloc, &self.features, number, &test),
         }
     }
 
     /// The identifiers of the features that have a value between two ends, or at one of them, in the column of a number, rising.
     /// An end that is None bounds nothing. The order of values is that of `AttrValue::compare`. By the column's index where there
-    /// is one, and else by a look at each feature.
+    /// is one and the features are few, and else by a look at each feature.
     ///
     /// # Errors
     ///
@@ -273,11 +270,8 @@ impl Layer {
         ensures { IfOk result (λ ids. ids.items ≡ ids_between number from.now to.now self.now) }
     {
         let test = IsBetween { from, to };
-        match self.values.column_between(number, from, to) {
-            Some(index) => {
-                let ids = index.ids_between(alloc, from, to)?;
-                ids_among(alloc, &self.features, number, &test, ids.as_slice())
-            }
+        match self.values.ids_between(alloc, number, from, to)? {
+            Some(ids) => ids_among(alloc, &self.features, number, &test, ids.as_slice()),
             None => ids_among_all(alloc, &self.features, number, &test),
         }
     }

@@ -1,5 +1,5 @@
 //! The index of one column.
-ghost use Rattle.std.specs.Prelude.{◌≡◌, ℕ, IfOk, IsTrue, OnOk, filter, map};
+ghost use Rattle.std.specs.Prelude.{◌≡◌, ℕ, IfOk, IfSome, IsTrue, OnOk, filter, map};
 ghost use Rattle.std.specs.BTreeMap.Range.{IsLeBy, IsLtBy, range_contains};
 ghost use Rattle.std.specs.List.Sorted.{IsStrictlySortedBy};
 ghost use Rattle.std.specs.Ordering.{nat_cmp};
@@ -7,7 +7,7 @@ ghost use Rattle.std.specs.List.{Contains};
 ghost use Rattle.std.specs.Bound.{IsForward};
 ghost use Rattle.sf_features.specs.Values.{same_value};
 ghost use Rattle.sf_layers.specs.Found.{is_between};
-ghost use Rattle.sf_layers.specs.ValueIndexes.{Grows, HasAll, HasEach, HasPair, HasThose, are_apart as are_apart_of, end_at, key_cmp, start_at};
+ghost use Rattle.sf_layers.specs.ValueIndexes.{Grows, HasAll, HasPair, HasRun, HasThose, Lists, are_apart as are_apart_of, end_at, key_cmp, start_at};
 
 use super::value_key::ValueKey;
 use sf_features::{AttrValue, Feature};
@@ -95,68 +95,78 @@ impl ValueIndex {
         }
     }
 
-    /// The identifiers of the pairs with a value, rising, and maybe others.
-    pub(crate) fn ids_of(&self, alloc: Global, value: &AttrValue) -> Result<Vec<u32>, AllocError>
-        ensures all { IfOk result (λ ids. HasEach (same_value value.now) self.now ids.items) }
-        ensures rising { IfOk result (λ ids. IsStrictlySortedBy nat_cmp ids.items) }
+    /// The identifiers of the pairs with a value, and maybe others, rising; None where a look at each feature is quicker.
+    pub(crate) fn ids_of(
+        &self,
+        alloc: Global,
+        value: &AttrValue,
+    ) -> Result<Option<Vec<u32>>, AllocError>
+        ensures { IfOk result (λ found. IfSome found (λ ids.
+            Lists (same_value value.now) self.now ids.items)) }
     {
         let start = ValueKey::of(alloc, value, 0)?;
         let end = ValueKey::of(alloc, value, u32::MAX)?;
         self.ids_in(alloc, Bound::Included(start), Bound::Included(end))
     }
 
-    /// The identifiers of the pairs whose value is between two ends, rising.
+    /// The identifiers of the pairs whose value is between two ends, rising; None where a look at each feature is quicker.
     pub(crate) fn ids_between(
         &self,
         alloc: Global,
         from: &Option<AttrValue>,
         to: &Option<AttrValue>,
-    ) -> Result<Vec<u32>, AllocError>
-        ensures all { IfOk result (λ ids. HasEach (is_between from.now to.now) self.now ids.items) }
-        ensures rising { IfOk result (λ ids. IsStrictlySortedBy nat_cmp ids.items) }
+    ) -> Result<Option<Vec<u32>>, AllocError>
+        ensures { IfOk result (λ found. IfSome found (λ ids.
+            Lists (is_between from.now to.now) self.now ids.items)) }
     {
         if are_apart(from, to) {
-            return Ok(Vec::new(alloc));
+            return Ok(Some(Vec::new(alloc)));
         }
         let start = start_of(alloc, from)?;
         let end = end_of(alloc, to)?;
         self.ids_in(alloc, start, end)
     }
 
-    // The identifiers of the pairs between two bounds, rising.
+    // The identifiers of the pairs between two bounds, rising, unless they are many.
     fn ids_in(
         &self,
         alloc: Global,
         start: Bound<ValueKey>,
         end: Bound<ValueKey>,
-    ) -> Result<Vec<u32>, AllocError>
+    ) -> Result<Option<Vec<u32>>, AllocError>
         requires { IsForward (IsLeBy key_cmp) (IsLtBy key_cmp) start end }
-        ensures all { IfOk result (λ ids. (id : ℕ)
-            → Contains (map (λ pair. pair.id) (filter (range_contains key_cmp start end) self.now)) id
-            → Contains ids.items id) }
-        ensures rising { IfOk result (λ ids. IsStrictlySortedBy nat_cmp ids.items) }
+        ensures { IfOk result (λ found. IfSome found (λ ids.
+            HasRun start end self.now ids.items)) }
     {
-        let mut ids = self.run(alloc, start, end)?;
-        order(&mut ids);
-        Ok(ids)
+        match self.run(alloc, start, end)? {
+            Some(mut ids) => {
+                order(&mut ids);
+                Ok(Some(ids))
+            }
+            None => Ok(None),
+        }
     }
 
-    // The identifiers of the pairs between two bounds, in the order of the pairs.
+    // The identifiers of the pairs between two bounds, in the order of the pairs, unless there are more than one for every four
+    // features. To find these features takes longer then than to look at each.
     fn run(
         &self,
         alloc: Global,
         start: Bound<ValueKey>,
         end: Bound<ValueKey>,
-    ) -> Result<Vec<u32>, AllocError>
+    ) -> Result<Option<Vec<u32>>, AllocError>
         requires { IsForward (IsLeBy key_cmp) (IsLtBy key_cmp) start end }
-        ensures { IfOk result (λ ids. ids.items
-            ≡ map (λ pair. pair.id) (filter (range_contains key_cmp start end) self.now)) }
+        ensures { IfOk result (λ found. IfSome found (λ ids. ids.items
+            ≡ map (λ pair. pair.id) (filter (range_contains key_cmp start end) self.now))) }
     {
         let mut ids = Vec::new(alloc);
         for pair in self.pairs.range((start, end)) {
+            if ids.len() > self.room / 4 {
+                return Ok(None);
+            }
             ids.push(pair.id)?;
         }
-        Ok(ids)
+        Ok(Some(ids))
     }
 }
 

@@ -1,13 +1,15 @@
 //! The indexes of a layer by the values of its features. An index is lost where memory runs out, and never in the way of a
 //! change: what is lost is made anew.
-ghost use Rattle.std.specs.Prelude.{◌≡◌, IfSome, IsTrue, None, Some, [], nat_eq, option_copied};
+ghost use Rattle.std.specs.Prelude.{◌≡◌, IfOk, IfSome, IsTrue, None, [], nat_eq};
 ghost use Rattle.std.specs.List.{AllByRecursion};
 ghost use Rattle.std.specs.Map.{lookup};
-ghost use Rattle.sf_layers.specs.ValueIndexes.{AreKept, AreNoted, IsKnown};
+ghost use Rattle.sf_features.specs.Values.{same_value};
+ghost use Rattle.sf_layers.specs.Found.{is_between};
+ghost use Rattle.sf_layers.specs.ValueIndexes.{AreKept, AreListed, AreNoted, IsKnown};
 
 use super::value_index::ValueIndex;
 use sf_features::{AttrValue, Feature};
-use std::alloc::Global;
+use std::alloc::{AllocError, Global};
 use std::collections::BTreeMap;
 use std::marker::Model;
 
@@ -35,26 +37,46 @@ impl ValueIndexes {
         }
     }
 
-    /// The index of the column of a number, or None where there is none.
-    pub(crate) fn column(&self, number: u16) -> Option<&ValueIndex>
-        ensures { option_copied result ≡ lookup (nat_eq number) self.now }
-    {
-        self.columns.get(&number)
+    /// Whether there is an index of the column of a number.
+    pub(crate) fn has_column(&self, number: u16) -> bool {
+        self.columns.contains_key(&number)
     }
 
-    /// The same where a bound is given; where none is, each feature with a value is asked for, and no index helps.
-    pub(crate) fn column_between(
+    /// The identifiers of the features with a value in the column of a number, as its index has them; None where it has none, or
+    /// where a look at each feature is quicker.
+    pub(crate) fn ids_of(
         &self,
+        alloc: Global,
+        number: u16,
+        value: &AttrValue,
+    ) -> Result<Option<Vec<u32>>, AllocError>
+        ensures { IfOk result (λ found. IfSome found (λ ids.
+            AreListed (same_value value.now) number self.now ids.items)) }
+    {
+        match self.columns.get(&number) {
+            Some(index) => index.ids_of(alloc, value),
+            None => Ok(None),
+        }
+    }
+
+    /// The same of those with a value between two ends. Where no end is given, each feature with a value is asked for.
+    pub(crate) fn ids_between(
+        &self,
+        alloc: Global,
         number: u16,
         from: &Option<AttrValue>,
         to: &Option<AttrValue>,
-    ) -> Option<&ValueIndex>
-        ensures { IfSome (option_copied result) (λ index. lookup (nat_eq number) self.now ≡ Some index) }
+    ) -> Result<Option<Vec<u32>>, AllocError>
+        ensures { IfOk result (λ found. IfSome found (λ ids.
+            AreListed (is_between from.now to.now) number self.now ids.items)) }
     {
         if from.is_none() && to.is_none() {
-            return None;
+            return Ok(None);
         }
-        self.column(number)
+        match self.columns.get(&number) {
+            Some(index) => index.ids_between(alloc, from, to),
+            None => Ok(None),
+        }
     }
 
     /// Makes the index of the column of a number. Where no memory is found, nothing is changed.
