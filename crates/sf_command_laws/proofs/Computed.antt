@@ -9,6 +9,8 @@ use Rattle.sf_layers.specs.declared.layer_kind.LayerKind.TheVariants.{Only}
 use Rattle.sf_features.specs.declared.attr_value.AttrValue.TheVariants as values
 use Rattle.sf_features.specs.declared.column_type.ColumnType.TheVariants as types
 use Rattle.sf_query.specs.declared.ask.Ask.TheVariants.{Matching, Named}
+use Rattle.sf_rules.specs.declared.rule.Demand.TheVariants.{Required, Unique}
+use Rattle.sf_rules.specs.declared.rule.Says.TheVariants.{OfLayers, OfValues}
 use Rattle.sf_rules.specs.declared.rule.Form.TheVariants.{Never, Each}
 use Rattle.sf_steps.specs.declared.edit.Edit.TheVariants as edits
 use Rattle.sf_measure.specs.declared.measure.Measure.TheVariants.{Area, Length}
@@ -109,11 +111,21 @@ pairs_not_asked : (command_of (codes "join") ≡ Err BadCommand) × (command_of 
     × (command_of (codes "join wells near parcels 1 2") ≡ Err BadCommand) × (command_of (codes "join wells near parcels 4294967296") ≡ Err BadCommand) × (command_of (codes "join wells near parcels") ≡ Err BadPattern) × (command_of (codes "join wells T*T parcels 1") ≡ Err BadPattern)
 pairs_not_asked = (refl, refl, refl, refl, refl, refl, refl)
 
-rules_added : (command_of (codes "rule add apart never parcels overlaps parcels") ≡ Ok (0, AddRule (record { name = codes "apart"; form = Never; first = codes "parcels"; ask = Named predicates.Overlaps; second = codes "parcels" })))
-    × (command_of (codes "@2  rule add inside each parcels within some districts ") ≡ Ok (2, AddRule (record { name = codes "inside"; form = Each; first = codes "parcels"; ask = Named predicates.Within; second = codes "districts" })))
-    × (command_of (codes "rule add 9 never wells t*F**F*** parcels") ≡ Ok (0, AddRule (record { name = codes "9"; form = Never; first = codes "wells"; ask = Matching (Filled ∷ Any ∷ Empty ∷ Any ∷ Any ∷ Empty ∷ Any ∷ Any ∷ Any ∷ []); second = codes "parcels" })))
-    × (command_of (codes "rule add never each some T******** some some") ≡ Ok (0, AddRule (record { name = codes "never"; form = Each; first = codes "some"; ask = Matching (Filled ∷ Any ∷ Any ∷ Any ∷ Any ∷ Any ∷ Any ∷ Any ∷ Any ∷ []); second = codes "some" })))
+rules_added : (command_of (codes "rule add apart never parcels overlaps parcels") ≡ Ok (0, AddRule (record { name = codes "apart"; says = OfLayers (record { form = Never; first = codes "parcels"; ask = Named predicates.Overlaps; second = codes "parcels" }) })))
+    × (command_of (codes "@2  rule add inside each parcels within some districts ") ≡ Ok (2, AddRule (record { name = codes "inside"; says = OfLayers (record { form = Each; first = codes "parcels"; ask = Named predicates.Within; second = codes "districts" }) })))
+    × (command_of (codes "rule add 9 never wells t*F**F*** parcels") ≡ Ok (0, AddRule (record { name = codes "9"; says = OfLayers (record { form = Never; first = codes "wells"; ask = Matching (Filled ∷ Any ∷ Empty ∷ Any ∷ Any ∷ Empty ∷ Any ∷ Any ∷ Any ∷ []); second = codes "parcels" }) })))
+    × (command_of (codes "rule add never each some T******** some some") ≡ Ok (0, AddRule (record { name = codes "never"; says = OfLayers (record { form = Each; first = codes "some"; ask = Matching (Filled ∷ Any ∷ Any ∷ Any ∷ Any ∷ Any ∷ Any ∷ Any ∷ Any ∷ []); second = codes "some" }) })))
 rules_added = (refl, refl, refl, refl)
+
+rules_on_values : (command_of (codes "rule add numbers unique parcels number") ≡ Ok (0, AddRule (record { name = codes "numbers"; says = OfValues (record { demand = Unique; layer = codes "parcels"; column = codes "number" }) })))
+    × (command_of (codes "@2 rule  add numbered required parcels number ") ≡ Ok (2, AddRule (record { name = codes "numbered"; says = OfValues (record { demand = Required; layer = codes "parcels"; column = codes "number" }) })))
+    × (command_of (codes "rule add unique never unique overlaps required") ≡ Ok (0, AddRule (record { name = codes "unique"; says = OfLayers (record { form = Never; first = codes "unique"; ask = Named predicates.Overlaps; second = codes "required" }) })))
+rules_on_values = (refl, refl, refl)
+
+-- a word too few or too many, and a word in capitals
+no_rules_on_values : (command_of (codes "rule add numbers unique parcels") ≡ Err BadCommand) × (command_of (codes "rule add numbers unique") ≡ Err BadCommand)
+    × (command_of (codes "rule add numbers unique parcels number number") ≡ Err BadCommand) × (command_of (codes "rule add numbers UNIQUE parcels number") ≡ Err BadCommand)
+no_rules_on_values = (refl, refl, refl, refl)
 
 rules_dropped : (command_of (codes "rule drop apart") ≡ Ok (0, DropRule (codes "apart"))) × (command_of (codes "@3 rule  drop 9 ") ≡ Ok (3, DropRule (codes "9")))
 rules_dropped = (refl, refl)

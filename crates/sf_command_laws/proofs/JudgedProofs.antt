@@ -31,6 +31,7 @@ use Rattle.sf_wkb.specs.declared.fault.WkbFault.TheVariants as binaries
 use Rattle.sf_wkb.specs.Faults.{refusal_of as refusal_of_bytes}
 use Rattle.sf_wkb.specs.Grammar.{read as read_bytes}
 use Rattle.sf_rules.specs.declared.rule.Form.{Form}
+use Rattle.sf_rules.specs.declared.rule.Demand.{Demand}
 use Rattle.sf_rules.specs.declared.rule.Form.TheVariants.{Never, Each}
 use Rattle.sf_steps.specs.declared.edit.Edit.TheVariants as edits
 use Rattle.sf_commands.specs.declared.command.Command.{Command}
@@ -48,7 +49,7 @@ use Rattle.sf_words.specs.Verbs.{action_of, verb_of}
 use Rattle.sf_words.specs.Naming.{given, id_of, vertex_place}
 use Rattle.sf_words.specs.Editors.{addressed, behind_at, by_digits, by_first_word, editor_of}
 use Rattle.sf_values.specs.Kinds.{column_type_of, layer_kind_of, predicate_of}
-use Rattle.sf_commands.specs.Commands.{add_arguments, add_column, check_arguments, add_layer, add_rule, addhex_arguments, addressed_command, after_two_words, alone, ask_by, ask_of, by_editor, by_verb, by_words, bytes_command, column_arguments, column_command, delete_arguments, drop_column, drop_layer, drop_rule, faultless, feature_arguments, feature_command, feature_named, features_arguments, features_command, find_arguments, form_of, join_arguments, join_by, beside_of, hex_command, ids_of, insert_vertex, layer_arguments, layer_command, made, match_arguments, move_layer, move_vertex, of_layer, of_text, query_arguments, remove_vertex, rename_layer, replace_arguments, rule_arguments, rule_asked, rule_command, second_of, set_arguments, sought_of, unset_arguments, valid_of, vertex_arguments, vertex_command, with_geometry, with_id, compared_arguments, few_named, ids_max, linked_of, nearest_arguments, query_near, query_named, reach_arguments, reach_behind, reach_linked, reach_until, Linked}
+use Rattle.sf_commands.specs.Commands.{Linked, add_arguments, add_column, add_layer, add_rule, addhex_arguments, addressed_command, after_two_words, alone, ask_by, ask_of, beside_of, by_editor, by_verb, by_words, bytes_command, check_arguments, column_arguments, column_command, compared_arguments, delete_arguments, demand_of, drop_column, drop_layer, drop_rule, faultless, feature_arguments, feature_command, feature_named, features_arguments, features_command, few_named, find_arguments, form_of, hex_command, ids_max, ids_of, insert_vertex, join_arguments, join_by, layer_arguments, layer_command, layer_rule, linked_of, made, match_arguments, move_layer, move_vertex, nearest_arguments, of_layer, of_text, query_arguments, query_named, query_near, reach_arguments, reach_behind, reach_linked, reach_until, remove_vertex, rename_layer, replace_arguments, rule_arguments, rule_asked, rule_by, rule_command, second_of, set_arguments, sought_of, unset_arguments, valid_of, value_rule, vertex_arguments, vertex_command, with_geometry, with_id}
 use Rattle.sf_command_laws.specs.Laws.{GivenGeometriesAreJudgedOverThePlane, HasFaultyGiven, HasJudgedGiven, HasValidGiven, SpellsValid, from_third, given_text, query_text, text_behind, text_by_words}
 
 -- what is said of what was made of a text behind the verb
@@ -398,13 +399,25 @@ second_other Each (some ∷ second ∷ word ∷ more) = refl
 rule_asked_judged : (t name : List ℕ) (form : Form) (first ask second : List ℕ) → Judged t (rule_asked name form first ask second)
 rule_asked_judged t name form first ask second = made_judged t (ask_of ask) _ (ask_by_other ask (predicate_of ask)) (λ ask. tt)
 
+layer_rule_judged : (t name : List ℕ) (form : Form) (arguments : List (List ℕ)) → Judged t (layer_rule name form arguments)
+layer_rule_judged t name form [] = bad t
+layer_rule_judged t name form (first ∷ []) = bad t
+layer_rule_judged t name form (first ∷ ask ∷ second) = made_judged t (second_of form second) _ (second_other form second) (λ second. rule_asked_judged t name form first ask second)
+
+value_rule_judged : (t name : List ℕ) (demand : Demand) (arguments : List (List ℕ)) → Judged t (value_rule name demand arguments)
+value_rule_judged t name demand [] = bad t
+value_rule_judged t name demand (layer ∷ []) = bad t
+value_rule_judged t name demand (layer ∷ column ∷ []) = tt
+value_rule_judged t name demand (layer ∷ column ∷ word ∷ more) = bad t
+
+rule_by_judged : (t name : List ℕ) (demand : Option Demand) (word : List ℕ) (arguments : List (List ℕ)) → Judged t (rule_by name demand word arguments)
+rule_by_judged t name (Some demand) word arguments = value_rule_judged t name demand arguments
+rule_by_judged t name None word arguments = given_judged t (form_of word) _ (λ form. layer_rule_judged t name form arguments)
+
 add_rule_judged : (t : List ℕ) (arguments : List (List ℕ)) → Judged t (add_rule arguments)
 add_rule_judged t [] = bad t
 add_rule_judged t (name ∷ []) = bad t
-add_rule_judged t (name ∷ form ∷ []) = bad t
-add_rule_judged t (name ∷ form ∷ first ∷ []) = bad t
-add_rule_judged t (name ∷ form ∷ first ∷ ask ∷ second) =
-    given_judged t (form_of form) _ (λ form. made_judged t (second_of form second) _ (second_other form second) (λ second. rule_asked_judged t name form first ask second))
+add_rule_judged t (name ∷ word ∷ arguments) = rule_by_judged t name (demand_of word) word arguments
 
 drop_rule_judged : (t : List ℕ) (arguments : List (List ℕ)) → Judged t (drop_rule arguments)
 drop_rule_judged t (name ∷ []) = tt

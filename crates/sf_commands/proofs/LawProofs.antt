@@ -23,6 +23,7 @@ use Rattle.sf_wkb.specs.declared.grid.Grid.TheVariants.{Bits31}
 use Rattle.sf_wkb.specs.Grammar.{read as read_bytes}
 use Rattle.sf_wkb.proofs.Sized.{read_is_sized as bytes_are_sized}
 use Rattle.sf_rules.specs.declared.rule.Form.{Form}
+use Rattle.sf_rules.specs.declared.rule.Demand.{Demand}
 use Rattle.sf_steps.specs.declared.edit.Edit.TheVariants as edits
 use Rattle.sf_steps.specs.Laws.{BringsGridPoints}
 use Rattle.sf_groups.specs.declared.member.Member.{Member}
@@ -44,7 +45,7 @@ use Rattle.sf_words.specs.Verbs.{action_of, verb_of}
 use Rattle.sf_words.specs.Naming.{given, id_named, id_of, vertex_place}
 use Rattle.sf_words.specs.Editors.{addressed}
 use Rattle.sf_values.specs.Kinds.{column_type_of, layer_kind_of, predicate_of}
-use Rattle.sf_commands.specs.Commands.{add_arguments, add_column, check_arguments, add_layer, add_rule, addhex_arguments, addressed_command, after_two_words, alone, ask_of, by_editor, by_verb, by_words, bytes_command, column_arguments, column_command, command_of, delete_arguments, drop_column, drop_layer, drop_rule, feature_arguments, feature_command, feature_named, features_arguments, features_command, find_arguments, form_of, join_arguments, join_by, beside_of, hex_command, ids_of, insert_vertex, layer_arguments, layer_command, made, match_arguments, move_layer, move_vertex, of_layer, of_text, query_arguments, remove_vertex, rename_layer, replace_arguments, rule_arguments, rule_asked, rule_command, second_of, set_arguments, sought_of, unset_arguments, valid_of, vertex_arguments, vertex_command, with_geometry, compared_arguments, few_named, ids_max, linked_of, nearest_arguments, query_near, query_asked, query_named, reach_arguments, reach_behind, reach_linked, reach_until, Linked}
+use Rattle.sf_commands.specs.Commands.{Linked, add_arguments, add_column, add_layer, add_rule, addhex_arguments, addressed_command, after_two_words, alone, ask_of, beside_of, by_editor, by_verb, by_words, bytes_command, check_arguments, column_arguments, column_command, command_of, compared_arguments, delete_arguments, demand_of, drop_column, drop_layer, drop_rule, feature_arguments, feature_command, feature_named, features_arguments, features_command, few_named, find_arguments, form_of, hex_command, ids_max, ids_of, insert_vertex, join_arguments, join_by, layer_arguments, layer_command, layer_rule, linked_of, made, match_arguments, move_layer, move_vertex, nearest_arguments, of_layer, of_text, query_arguments, query_asked, query_named, query_near, reach_arguments, reach_behind, reach_linked, reach_until, remove_vertex, rename_layer, replace_arguments, rule_arguments, rule_asked, rule_by, rule_command, second_of, set_arguments, sought_of, unset_arguments, valid_of, value_rule, vertex_arguments, vertex_command, with_geometry}
 use Rattle.sf_commands.specs.Members.{member_by, member_by_verb, member_by_words, member_of, second_is_last, third_is_last}
 use Rattle.sf_words.specs.Parts.{parts_of}
 use Rattle.sf_commands.specs.GroupTexts.{and_behind, members_behind, members_in, placed}
@@ -255,13 +256,25 @@ reach_brings (layer ∷ ask ∷ arguments) = reach_linked_brings layer ask (link
 rule_asked_brings : (name : List ℕ) (form : Form) (first ask second : List ℕ) → Brings (rule_asked name form first ask second)
 rule_asked_brings name form first ask second = made_brings (ask_of ask) _ (λ ask. tt)
 
+layer_rule_brings : (name : List ℕ) (form : Form) (arguments : List (List ℕ)) → Brings (layer_rule name form arguments)
+layer_rule_brings name form [] = tt
+layer_rule_brings name form (first ∷ []) = tt
+layer_rule_brings name form (first ∷ ask ∷ second) = made_brings (second_of form second) _ (λ second. rule_asked_brings name form first ask second)
+
+value_rule_brings : (name : List ℕ) (demand : Demand) (arguments : List (List ℕ)) → Brings (value_rule name demand arguments)
+value_rule_brings name demand [] = tt
+value_rule_brings name demand (layer ∷ []) = tt
+value_rule_brings name demand (layer ∷ column ∷ []) = tt
+value_rule_brings name demand (layer ∷ column ∷ word ∷ more) = tt
+
+rule_by_brings : (name : List ℕ) (demand : Option Demand) (word : List ℕ) (arguments : List (List ℕ)) → Brings (rule_by name demand word arguments)
+rule_by_brings name (Some demand) word arguments = value_rule_brings name demand arguments
+rule_by_brings name None word arguments = given_brings (form_of word) _ (λ form. layer_rule_brings name form arguments)
+
 add_rule_brings : (arguments : List (List ℕ)) → Brings (add_rule arguments)
 add_rule_brings [] = tt
 add_rule_brings (name ∷ []) = tt
-add_rule_brings (name ∷ form ∷ []) = tt
-add_rule_brings (name ∷ form ∷ first ∷ []) = tt
-add_rule_brings (name ∷ form ∷ first ∷ ask ∷ second) =
-    given_brings (form_of form) _ (λ form. made_brings (second_of form second) _ (λ second. rule_asked_brings name form first ask second))
+add_rule_brings (name ∷ word ∷ arguments) = rule_by_brings name (demand_of word) word arguments
 
 drop_rule_brings : (arguments : List (List ℕ)) → Brings (drop_rule arguments)
 drop_rule_brings (name ∷ []) = tt

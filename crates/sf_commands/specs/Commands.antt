@@ -26,6 +26,9 @@ use Rattle.sf_query.specs.declared.ask.Ask.{Ask}
 use Rattle.sf_query.specs.declared.ask.Ask.TheVariants.{Matching, Named}
 use Rattle.sf_rules.specs.declared.rule.Form.{Form}
 use Rattle.sf_rules.specs.declared.rule.Form.TheVariants.{Never, Each}
+use Rattle.sf_rules.specs.declared.rule.Says.TheVariants.{OfLayers, OfValues}
+use Rattle.sf_rules.specs.declared.rule.Demand.{Demand}
+use Rattle.sf_rules.specs.declared.rule.Demand.TheVariants.{Required, Unique}
 use Rattle.sf_steps.specs.declared.edit.Edit.TheVariants as edits
 use Rattle.sf_words.specs.declared.verb.Verb.{Verb}
 use Rattle.sf_words.specs.declared.verb.Verb.TheVariants as verbs
@@ -398,15 +401,33 @@ second_of Never (second ∷ []) = Ok second
 second_of Each (some ∷ second ∷ []) = if bytes_eq some (codes "some") then Ok second else Err BadCommand
 second_of form arguments = Err BadCommand
 
--- a new rule, if what is asked could be read
+-- a new rule between layers, if what is asked could be read
 abbrev pub rule_asked : List ℕ → Form → List ℕ → List ℕ → List ℕ → Result Command Refusal
 rule_asked name form first ask second =
-    made (ask_of ask) (λ ask. Ok (AddRule (record { name = name; form = form; first = first; ask = ask; second = second })))
+    made (ask_of ask) (λ ask. Ok (AddRule (record { name = name; says = OfLayers (record { form = form; first = first; ask = ask; second = second }) })))
 
--- the words after `rule add`: a name, a form, a layer, what is asked, and another layer
+-- a rule between layers, of the words behind its form: a layer, what is asked, and another layer
+abbrev pub layer_rule : List ℕ → Form → List (List ℕ) → Result Command Refusal
+layer_rule name form (first ∷ ask ∷ second) = made (second_of form second) (λ second. rule_asked name form first ask second)
+layer_rule name form arguments = Err BadCommand
+
+-- what a word demands of the values in a column
+abbrev pub demand_of : List ℕ → Option Demand
+demand_of word = lookup (bytes_eq word) ((codes "unique", Unique) ∷ (codes "required", Required) ∷ [])
+
+-- a rule on values, of the words behind its demand: a layer and a column
+abbrev pub value_rule : List ℕ → Demand → List (List ℕ) → Result Command Refusal
+value_rule name demand (layer ∷ column ∷ []) = Ok (AddRule (record { name = name; says = OfValues (record { demand = demand; layer = layer; column = column }) }))
+value_rule name demand arguments = Err BadCommand
+
+-- a rule of a name, by what it demands of values, or else by its form
+abbrev pub rule_by : List ℕ → Option Demand → List ℕ → List (List ℕ) → Result Command Refusal
+rule_by name (Some demand) word arguments = value_rule name demand arguments
+rule_by name None word arguments = given (form_of word) (λ form. layer_rule name form arguments)
+
+-- the words after `rule add`: a name, a demand or a form, and what the rule is about
 abbrev pub add_rule : List (List ℕ) → Result Command Refusal
-add_rule (name ∷ form ∷ first ∷ ask ∷ second) =
-    given (form_of form) (λ form. made (second_of form second) (λ second. rule_asked name form first ask second))
+add_rule (name ∷ word ∷ arguments) = rule_by name (demand_of word) word arguments
 add_rule arguments = Err BadCommand
 
 -- the words after `rule drop`: a name

@@ -1,13 +1,14 @@
-//! Commands about rules between the features of layers.
+//! Commands about rules between the features of layers, and on their values.
 ghost use Rattle.std.specs.Prelude.{◌≡◌, Ok, Err, MatchResult};
-ghost use Rattle.sf_commands.specs.Commands.{rule_arguments as rule_command_of, add_rule as add_rule_of, drop_rule as drop_rule_of, rule_asked as rule_asked_of, second_of as second_spelled, alone, OrMemory};
+ghost use Rattle.sf_commands.specs.Commands.{rule_arguments as rule_command_of, add_rule as add_rule_of, drop_rule as drop_rule_of, form_of as form_named, layer_rule as layer_rule_of, rule_asked as rule_asked_of, second_of as second_spelled, value_rule as value_rule_of, alone, OrMemory};
+ghost use Rattle.sf_words.specs.Naming.{given};
 ghost use Rattle.sf_commands.specs.declared.command.Command.TheVariants.{Rules};
 ghost use Rattle.sf_words.specs.Words.{words as words_of};
 
 use super::command::Command;
-use super::spelling::{ask_of, form_of};
+use super::spelling::{ask_of, demand_of, form_of};
 use sf_refusals::Refusal;
-use sf_rules::{Form, Rule};
+use sf_rules::{Demand, Form, LayerRule, Rule, Says, ValueRule};
 use sf_values::text_of;
 use sf_words::{Action, Words, action_of};
 use std::alloc::Global;
@@ -27,10 +28,61 @@ fn add_rule(alloc: Global, mut words: Words<'_>) -> Result<Command, Refusal>
     ensures { OrMemory (add_rule_of (words_of words.entry)) result }
 {
     let name = words.next()?;
-    let form = words.next()?;
+    let word = words.next()?;
+    match demand_of(word) {
+        Some(demand) => value_rule(alloc, name, demand, words),
+        None => rule_of_form(alloc, name, word, words),
+    }
+}
+
+/// A rule on values, from the words behind its demand.
+fn value_rule(
+    alloc: Global,
+    name: &str,
+    demand: Demand,
+    mut words: Words<'_>,
+) -> Result<Command, Refusal>
+    ensures { OrMemory (value_rule_of name.now demand (words_of words.entry)) result }
+{
+    let layer = words.next()?;
+    let column = words.next()?;
+    words.finish()?;
+    Ok(Command::AddRule(Rule {
+        name: text_of(alloc, name)?,
+        says: Says::OfValues(ValueRule {
+            demand,
+            layer: text_of(alloc, layer)?,
+            column: text_of(alloc, column)?,
+        }),
+    }))
+}
+
+/// A rule between layers, whose form a word spells.
+fn rule_of_form(
+    alloc: Global,
+    name: &str,
+    word: &str,
+    words: Words<'_>,
+) -> Result<Command, Refusal>
+    ensures { OrMemory (given (form_named word.now) (λ form. layer_rule_of name.now form (words_of words.entry))) result }
+{
+    let Some(form) = form_of(word) else {
+        return Err(Refusal::BadCommand);
+    };
+    layer_rule(alloc, name, form, words)
+}
+
+/// A rule between layers, from the words behind its form.
+fn layer_rule(
+    alloc: Global,
+    name: &str,
+    form: Form,
+    mut words: Words<'_>,
+) -> Result<Command, Refusal>
+    ensures { OrMemory (layer_rule_of name.now form (words_of words.entry)) result }
+{
     let first = words.next()?;
     let ask = words.next()?;
-    let form = form_of(form).ok_or(Refusal::BadCommand)?;
     let second = second_of(form, words)?;
     rule_asked(alloc, name, form, first, ask, second)
 }
@@ -63,10 +115,12 @@ fn rule_asked(
     let ask = ask_of(ask)?;
     Ok(Command::AddRule(Rule {
         name: text_of(alloc, name)?,
-        form,
-        first: text_of(alloc, first)?,
-        ask,
-        second: text_of(alloc, second)?,
+        says: Says::OfLayers(LayerRule {
+            form,
+            first: text_of(alloc, first)?,
+            ask,
+            second: text_of(alloc, second)?,
+        }),
     }))
 }
 

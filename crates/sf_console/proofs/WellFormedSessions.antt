@@ -19,8 +19,8 @@ use Rattle.sf_history.specs.Recorded.{Broken}
 use Rattle.sf_history.specs.Recorded.{Rule}
 use Rattle.sf_history.specs.Recorded.{break_of, broken_or, first_broken}
 use Rattle.sf_history.specs.Recorded.{StepRefusal}
-use Rattle.sf_history.specs.Recorded.refusals.{BadName, LayerRuled, NoLayer, RuleExists, TooManyRules}
-use Rattle.sf_history.specs.Recorded.{Ruled, added, after_change, edit_led, group_led, has_layers, has_rule, place_of_rule, rules_after, rules_max, settled, unless_broken, with_rule, without_rule}
+use Rattle.sf_history.specs.Recorded.refusals.{BadName, NoColumn, NoLayer, RuleExists, TooManyRules}
+use Rattle.sf_history.specs.Recorded.{Ruled, added, after_change, edit_led, group_led, has_layers_of, has_named, has_rule, place_of_rule, rules_after, rules_max, settled, unless_broken, why_missing, with_rule, without_rule}
 use Rattle.sf_history.specs.History.{Kept, Machine, after_step, answering, back_to, forth_to, fresh, giving, identifying, ruled_now}
 use Rattle.sf_commands.specs.declared.command.Command.{Command}
 use Rattle.sf_commands.specs.declared.command.Command.TheVariants as commands
@@ -63,10 +63,10 @@ rule_fine machine name (Err refusal) fine = fine
 -- a step to a content that is well formed
 led_fine : (machine : Machine) (editor : ℕ) (next : Ruled) → IsWellFormed next.content → AreWellFormed machine
     → AreWellFormed (machine_after machine (after_step editor machine (settled next)))
-led_fine machine editor next well fine = by (list_all (has_layers next.content) next.rules) (first_broken next.content next.rules)
+led_fine machine editor next well fine = by (list_all (has_named next.content) next.rules) (first_broken next.content next.rules)
   where
     by : (there : Bool) (broken : Option Broken)
-        → AreWellFormed (machine_after machine (after_step editor machine (if there then unless_broken next broken else Err LayerRuled)))
+        → AreWellFormed (machine_after machine (after_step editor machine (if there then unless_broken next broken else Err (why_missing next.content next.rules))))
     by true None = record { now = well; past = (fine.now, fine.past); future = tt }
     by true (Some broken) = fine
     by false broken = fine
@@ -92,8 +92,8 @@ after_rule : (machine : Machine) (editor : ℕ) (rule : Rule) → AreWellFormed 
 after_rule machine editor rule fine =
     checked_fine machine editor (not (is_name rule.name)) BadName _ fine
     (checked_fine machine editor (has_rule rule.name machine.rules) RuleExists _ fine
-    (checked_fine machine editor (not (has_layer machine.now rule.first)) NoLayer _ fine
-    (checked_fine machine editor (not (has_layer machine.now rule.second)) NoLayer _ fine
+    (checked_fine machine editor (not (has_layers_of machine.now rule)) NoLayer _ fine
+    (checked_fine machine editor (not (has_named machine.now rule)) NoColumn _ fine
     (checked_fine machine editor (not (nat_lt (length machine.rules) rules_max)) TooManyRules _ fine
     (by (broken_or (length machine.rules) (break_of machine.now rule) None))))))
   where

@@ -7,7 +7,7 @@ use Rattle.sf_query.specs.declared.ask.Ask.{Ask}
 use Rattle.sf_query.specs.declared.ask.Ask.TheVariants.{Matching, Named}
 use Rattle.sf_history.specs.Recorded.{Break}
 use Rattle.sf_history.specs.Recorded.{Alone, Pair}
-use Rattle.sf_history.specs.Recorded.{Form}
+use Rattle.sf_history.specs.Recorded.{Demand, Form, LayerRule, OfLayers, OfValues, Required, Says, Unique, ValueRule}
 use Rattle.sf_history.specs.Recorded.{Each, Never}
 use Rattle.sf_history.specs.Recorded.{Rule}
 use Rattle.sf_history.specs.Recorded.{StepRefusal}
@@ -27,13 +27,29 @@ abbrev pub second_words : Form → List ℕ
 second_words Never = codes " "
 second_words Each = codes " some "
 
--- what stands in the row of a rule before what is asked
-abbrev pub front_words : Rule → List ℕ
-front_words rule = rule.name ++ (form_words rule.form ++ (rule.first ++ codes " "))
+-- what stands in the row of a rule between layers before what is asked
+abbrev pub front_words : LayerRule → List ℕ
+front_words rule = form_words rule.form ++ (rule.first ++ codes " ")
+
+-- and behind it
+abbrev pub between_words : LayerRule → List ℕ
+between_words rule = front_words rule ++ (ask_word rule.ask ++ (second_words rule.form ++ rule.second))
+
+-- the word of a demand
+abbrev pub demand_words : Demand → List ℕ
+demand_words Unique = codes " unique "
+demand_words Required = codes " required "
+
+abbrev pub values_words : ValueRule → List ℕ
+values_words rule = demand_words rule.demand ++ (rule.layer ++ (codes " " ++ rule.column))
+
+abbrev pub said_words : Says → List ℕ
+said_words (OfLayers rule) = between_words rule
+said_words (OfValues rule) = values_words rule
 
 -- the row of a rule, as it was added
 abbrev pub rule_row : Rule → List ℕ
-rule_row rule = front_words rule ++ (ask_word rule.ask ++ (second_words rule.form ++ rule.second))
+rule_row rule = rule.name ++ said_words rule.says
 
 -- the features that break a rule
 abbrev pub break_words : Break → List ℕ

@@ -230,7 +230,7 @@ fn execute_any(
         Command::Show(name) => show(alloc, editor.store(), &name),
         Command::Get(layer, ids) => get(alloc, editor.store(), &layer, &ids),
         Command::Find(layer, column, sought) => {
-            find(alloc, editor.store(), &layer, &column, &sought)
+            find_by_index(alloc, editor, &layer, &column, &sought)
         }
         Command::Check(layer, geometry) => checked(alloc, editor.store(), &layer, &geometry),
         Command::Hex(layer, id) => hex(alloc, editor.store(), &layer, id),
@@ -330,6 +330,47 @@ fn measured(
 {
     let layer = store.layer(name.as_str()).ok_or(Refusal::NoLayer)?;
     Ok(Reply::Lines(measured_rows(alloc, measure, layer, ids.as_slice())?))
+}
+
+/// The same as `find`, once the column has its index by value.
+fn find_by_index(
+    alloc: Global,
+    editor: &mut Editor,
+    name: &Text,
+    column: &Text,
+    sought: &Option<AttrValue>,
+) -> Result<Reply, Refusal>
+    ensures answered { (reply_text result ≡ found_by (layer_of editor.old.now name.now) column.now sought.now) ⊎ (reply_text result ≡ refusal_line Refusal.Memory) }
+    ensures unchanged { editor.new ≡ editor.old }
+{
+    index_sought(alloc, editor, name, column, sought);
+    find(alloc, editor.store(), name, column, sought)
+}
+
+/// Makes the index of the column in which a value is sought, where there is none.
+fn index_sought(
+    alloc: Global,
+    editor: &mut Editor,
+    name: &Text,
+    column: &Text,
+    sought: &Option<AttrValue>,
+)
+    ensures { editor.new ≡ editor.old }
+{
+    if sought.is_none() {
+        return;
+    }
+    let Some((place, number)) = column_spot(editor.store(), name, column) else {
+        return;
+    };
+    editor.index_values(alloc, place, number);
+}
+
+/// The place of the layer of a name, and the number of its column of a name, where both are there.
+fn column_spot(store: &Store, name: &Text, column: &Text) -> Option<(usize, u16)> {
+    let place = store.place(name.as_str())?;
+    let layer = store.layer(name.as_str())?;
+    Some((place, column_of(layer, column.as_str())?.number))
 }
 
 /// The identifiers of the features with a value in the column of that name: this one, where one is given.

@@ -1,9 +1,9 @@
 //! Features by a value in a column.
 ghost use Rattle.std.specs.Prelude.{◌≡◌, IfOk, option_copied};
 ghost use Rattle.sf_layers.specs.Content.{column_named};
-ghost use Rattle.sf_console.specs.Answers.{has_sought as has_sought_of, ids_with as ids_with_of, is_sought as is_sought_of, may_be_sought as may_be_sought_of};
+ghost use Rattle.sf_console.specs.Answers.{ids_with as ids_with_of, may_be_sought as may_be_sought_of};
 
-use sf_layers::{AttrValue, Column, ColumnType, Feature, Layer};
+use sf_layers::{AttrValue, Column, ColumnType, Layer};
 use std::alloc::{AllocError, Global};
 
 /// The column of a name, or None where the layer has none.
@@ -26,8 +26,8 @@ pub(crate) fn may_be_sought(column_type: ColumnType, sought: &Option<AttrValue>)
     }
 }
 
-/// The identifiers of the features with a value that is sought in the column of a number, rising. Each feature is looked
-/// at once, and no value is copied.
+/// The identifiers of the features with a value that is sought in the column of a number, rising: by the column's index, where it
+/// has one.
 pub(crate) fn ids_with(
     alloc: Global,
     layer: &Layer,
@@ -36,31 +36,8 @@ pub(crate) fn ids_with(
 ) -> Result<Vec<u32>, AllocError>
     ensures { IfOk result (λ ids. ids.items ≡ ids_with_of number sought.now layer.now) }
 {
-    let mut ids = Vec::new(alloc);
-    for (id, feature) in layer.features() {
-        if has_sought(feature, number, sought) {
-            ids.push(*id)?;
-        }
-    }
-    Ok(ids)
-}
-
-/// Whether a feature has a value that is sought in the column of a number.
-fn has_sought(feature: &Feature, number: u16, sought: &Option<AttrValue>) -> bool
-    ensures { result ≡ has_sought_of number sought.now feature.now }
-{
-    match feature.value(number) {
-        Some(value) => is_sought(sought, value),
-        None => false,
-    }
-}
-
-/// Whether a value is the one that is sought; each is, where none is given.
-fn is_sought(sought: &Option<AttrValue>, value: &AttrValue) -> bool
-    ensures { result ≡ is_sought_of sought.now value.now }
-{
     match sought {
-        Some(sought) => sought.is_same(value),
-        None => true,
+        Some(value) => layer.ids_with_value(alloc, number, value),
+        None => layer.ids_between(alloc, number, &None, &None),
     }
 }

@@ -4,11 +4,13 @@ ghost use Rattle.sf_known.specs.Patterns.{pattern_text};
 ghost use Rattle.sf_commands.specs.declared.command.Command.TheVariants as commands;
 ghost use Rattle.sf_console.specs.Answers.{IsSaidAlways, broken_line as broken_line_of, line, refusal_line, reply_text, rows, step_refusal_line};
 ghost use Rattle.sf_console.specs.Readings.{Asked};
-ghost use Rattle.sf_console.specs.RuleRows.{ask_word, break_words, broken_name as broken_name_of, form_words as form_words_of, front_words, rule_name as rule_name_of, rule_row, second_words as second_words_of};
+ghost use Rattle.sf_console.specs.RuleRows.{ask_word, between_words, break_words, broken_name as broken_name_of, demand_words as demand_words_of, form_words as form_words_of, front_words, rule_name as rule_name_of, rule_row, said_words, second_words as second_words_of, values_words};
 ghost use Rattle.sf_console.specs.Session.{IsAnswered};
 
 use super::reply::Reply;
-use sf_history::{Break, Editor, Form, Rule, Rules, StepRefusal};
+use sf_history::{
+    Break, Demand, Editor, Form, LayerRule, Rule, Rules, Says, StepRefusal, ValueRule,
+};
 use sf_known::Letter;
 use sf_layers::Text;
 use sf_query::Ask;
@@ -103,8 +105,10 @@ pub fn refused_step(alloc: Global, name: &str, refusal: StepRefusal) -> Result<R
         StepRefusal::NoRule => Err(Refusal::NoRule),
         StepRefusal::RuleExists => Err(Refusal::RuleExists),
         StepRefusal::LayerRuled => Err(Refusal::LayerRuled),
+        StepRefusal::ColumnRuled => Err(Refusal::LayerRuled),
         StepRefusal::BadName => Err(Refusal::BadName),
         StepRefusal::NoLayer => Err(Refusal::NoLayer),
+        StepRefusal::NoColumn => Err(Refusal::NoColumn),
         StepRefusal::TooManyRules => Err(Refusal::IdsExhausted),
         StepRefusal::Memory => Err(Refusal::Memory),
     }
@@ -152,21 +156,58 @@ fn rule_rows(alloc: Global, rules: &[Rule]) -> Result<String, AllocError>
 fn push_rule(text: &mut String, rule: &Rule) -> Result<(), AllocError>
     ensures { OnOk result (string_bytes text.new ≡ string_bytes text.old ++ line (rule_row rule.now)) }
 {
-    push_front(text, rule)?;
-    push_ask(text, &rule.ask)?;
-    text.push_str(second_words(rule.form))?;
-    text.push_str(rule.second.as_str())?;
+    text.push_str(rule.name.as_str())?;
+    push_said(text, &rule.says)?;
     text.push('\n')
 }
 
-/// What stands in the row of a rule before what is asked.
-fn push_front(text: &mut String, rule: &Rule) -> Result<(), AllocError>
+/// What a rule says.
+fn push_said(text: &mut String, says: &Says) -> Result<(), AllocError>
+    ensures { OnOk result (string_bytes text.new ≡ string_bytes text.old ++ said_words says.now) }
+{
+    match says {
+        Says::OfLayers(rule) => push_between(text, rule),
+        Says::OfValues(rule) => push_values(text, rule),
+    }
+}
+
+/// What a rule between layers says.
+fn push_between(text: &mut String, rule: &LayerRule) -> Result<(), AllocError>
+    ensures { OnOk result (string_bytes text.new ≡ string_bytes text.old ++ between_words rule.now) }
+{
+    push_front(text, rule)?;
+    push_ask(text, &rule.ask)?;
+    text.push_str(second_words(rule.form))?;
+    text.push_str(rule.second.as_str())
+}
+
+/// What stands in the row of a rule between layers before what is asked.
+fn push_front(text: &mut String, rule: &LayerRule) -> Result<(), AllocError>
     ensures { OnOk result (string_bytes text.new ≡ string_bytes text.old ++ front_words rule.now) }
 {
-    text.push_str(rule.name.as_str())?;
     text.push_str(form_words(rule.form))?;
     text.push_str(rule.first.as_str())?;
     text.push(' ')
+}
+
+/// What a rule on values says.
+fn push_values(text: &mut String, rule: &ValueRule) -> Result<(), AllocError>
+    ensures { OnOk result (string_bytes text.new ≡ string_bytes text.old ++ values_words rule.now) }
+{
+    text.push_str(demand_words(rule.demand))?;
+    text.push_str(rule.layer.as_str())?;
+    text.push(' ')?;
+    text.push_str(rule.column.as_str())
+}
+
+/// The word of a demand, with the blanks around it.
+fn demand_words(demand: Demand) -> &'static str
+    ensures { result.now ≡ demand_words_of demand }
+{
+    match demand {
+        Demand::Unique => " unique ",
+        Demand::Required => " required ",
+    }
 }
 
 /// What is asked, as one word.

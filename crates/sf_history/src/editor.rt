@@ -77,6 +77,14 @@ impl Editor {
         }
     }
 
+    /// Makes the index by value of a column of the layer at a place, by the column's number, where there is none. Where no memory
+    /// is found, or no layer is there, nothing is done.
+    pub fn index_values(&mut self, alloc: Global, place: usize, number: u16)
+        ensures { self.new ≡ self.old }
+    {
+        self.ruled.index_values(alloc, place, number);
+    }
+
     /// Carries out an edit of the editor, and empties the future.
     ///
     /// # Errors
