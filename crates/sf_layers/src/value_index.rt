@@ -147,7 +147,7 @@ impl ValueIndex {
         }
     }
 
-    // The identifiers of the pairs between two bounds, in the order of the pairs, unless there are more than one for every four
+    // The identifiers of the pairs between two bounds, in the order of the pairs, unless there is more than one for sixteen
     // features. To find these features takes longer then than to look at each.
     fn run(
         &self,
@@ -161,7 +161,7 @@ impl ValueIndex {
     {
         let mut ids = Vec::new(alloc);
         for pair in self.pairs.range((start, end)) {
-            if ids.len() > self.room / 4 {
+            if ids.len() > self.room / 16 {
                 return Ok(None);
             }
             ids.push(pair.id)?;
