@@ -12,6 +12,7 @@ from qgis.core import QgsCoordinateReferenceSystem, QgsMessageLog, QgsSettings
 from qgis.PyQt.QtCore import QObject, QSocketNotifier, QThread, QTimer, pyqtSignal
 
 from sfstore import journal, sidecar
+from sfstore.commandline import reason_of
 from sfstore.exchange.grid import Grid
 from sfstore.results import Column
 from sfstore.web.client import CallFailed, Client, Events, ServerGone, start_server
@@ -344,7 +345,7 @@ def _placed(path: str) -> tuple[str, Grid, Any]:
     try:
         found = sidecar.read(path)
     except (OSError, sidecar.SidecarError) as error:
-        return f"{error}. Coordinates are shown in steps.", Grid("0", "0", "1"), QgsCoordinateReferenceSystem()
+        return f"{reason_of(error)}. Coordinates are shown in steps.", Grid("0", "0", "1"), QgsCoordinateReferenceSystem()
     return "", Grid(*found.grid), _system(found.crs)
 
 

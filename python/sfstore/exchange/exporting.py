@@ -16,7 +16,7 @@ from collections.abc import Callable
 from dataclasses import dataclass
 
 from sfstore import files, journal, sidecar
-from sfstore.commandline import add_version
+from sfstore.commandline import add_version, reason_of
 from sfstore.exchange import ogr, outcome, rulesfile, wayback
 from sfstore.exchange.asking import tables_of
 from sfstore.exchange.formats import FORMATS, Part, format_of, parts_of, rules_kept
@@ -145,7 +145,7 @@ def _write_rules(wishes: Wishes, path: str, rules: list[Rule], say: Say) -> None
     try:
         rulesfile.write(path, rules, wishes.overwrite, _mode(wishes), say)
     except (ogr.ExchangeError, OSError, KeyboardInterrupt) as error:
-        why = "interrupted" if isinstance(error, KeyboardInterrupt) else error
+        why = "interrupted" if isinstance(error, KeyboardInterrupt) else reason_of(error)
         raise ogr.ExchangeError(f"the map is written, but not its rules: {why}") from None
 
 
@@ -154,7 +154,7 @@ def _keep_grid(wishes: Wishes, found: Sidecar) -> None:
     try:
         sidecar.write(wishes.store, found, [files.digest(wishes.store)])
     except OSError as error:
-        raise ogr.ExchangeError(f"the map is written, but not its grid beside the store: {error}") from None
+        raise ogr.ExchangeError(f"the map is written, but not its grid beside the store: {reason_of(error)}") from None
 
 
 def _write(wishes: Wishes, parts: list[Part], found: Sidecar, rules: list[Rule], say: Say) -> None:

@@ -17,7 +17,7 @@ from functools import partial
 from typing import NamedTuple
 
 from sfstore import sidecar
-from sfstore.commandline import add_version
+from sfstore.commandline import add_version, reason_of
 from sfstore.exchange import ogr, outcome, rulesfile, wayback
 from sfstore.exchange.adding import Broken, add
 from sfstore.exchange.grid import Grid
@@ -519,7 +519,7 @@ def _bring_in(asked: argparse.Namespace, grid: Grid | None) -> int:
         if asked.faulty:
             report.write_features(asked.faulty, crs, asked.overwrite, _mode(asked.file))
     except (ogr.ExchangeError, OSError, KeyboardInterrupt) as error:
-        what = "interrupted" if isinstance(error, KeyboardInterrupt) else error
+        what = "interrupted" if isinstance(error, KeyboardInterrupt) else reason_of(error)
         done = "all is in the journal" if asked.add else "the store's file is written"
         print(f"sfstore-import: {fault or done}, but: {what}", file=sys.stderr)
         return 3 if fault else 1

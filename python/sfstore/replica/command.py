@@ -10,7 +10,7 @@ import time
 from collections.abc import Callable
 from pathlib import Path
 
-from sfstore.commandline import add_version
+from sfstore.commandline import add_version, reason_of
 from sfstore.journal import JournalError
 from sfstore.replica import owning
 from sfstore.replica.demo import demonstrate
@@ -45,7 +45,7 @@ def main(words: list[str] | None = None) -> int:
     except (ModuleNotFoundError, LinkLost, LogRefused, LogUnreachable, JournalError) as error:
         return _failed(str(error), 3)
     except (owning.LoginExists, AnswerGone, ProgramEnded, OSError, RuntimeError, ValueError) as error:
-        return _failed(str(error), 3)
+        return _failed(reason_of(error), 3)
     except KeyboardInterrupt:
         return 130
 

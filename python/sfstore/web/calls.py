@@ -10,6 +10,7 @@ from typing import Any, TypeVar
 
 from sfstore import sidecar, spelling
 from sfstore.broken import Broken, broken_by
+from sfstore.commandline import reason_of
 from sfstore.commands import Command, help_text, near_words
 from sfstore.faults import fault_at, fault_of
 from sfstore.geometry import Shape, read_wkb, write_wkt
@@ -90,7 +91,7 @@ class Calls:
         """The last is why coordinates are steps, where the store has a side-car; else empty."""
         self._keeper = keeper
         self._program = program
-        self._editors = Editors(path)
+        self._editors = Editors(path, keeper.editors)
         self.logins = Logins(self._editors)
         self.styles = Styles(path)
         self._history = History()
@@ -549,7 +550,7 @@ def _grid_of(path: str) -> tuple[Body | None, MapUnits | None, str]:
         found = sidecar.read(path)
         units = MapUnits(*found.grid)
     except (sidecar.SidecarError, OSError, ValueError) as error:
-        return None, None, f"Coordinates are steps of the grid: {error}"
+        return None, None, f"Coordinates are steps of the grid: {reason_of(error)}"
     x, y, step = found.grid
     crs = found.crs
     return {"x": x, "y": y, "step": step, "crs": str(crs) if crs else None, "metres": metres_of(crs.wkt) if crs else None}, units, ""

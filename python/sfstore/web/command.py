@@ -12,7 +12,7 @@ import threading
 import time
 from collections.abc import Callable, Iterator
 
-from sfstore.commandline import add_version, counted, recovered_words
+from sfstore.commandline import add_version, counted, reason_of, recovered_words
 from sfstore.journal import JournalError, path_of
 from sfstore.store import ProgramEnded
 from sfstore.storefile import fault_words
@@ -54,11 +54,11 @@ def main(words: list[str] | None = None) -> int:
         reason = fault_words(asked.file, ended.last_line) if ended.status == 3 else str(ended)
         return _failed(f"{asked.file} does not load: {reason}")
     except (JournalError, OSError) as error:
-        return _failed(str(error))
+        return _failed(reason_of(error))
     try:
         return _serve(asked, keeper, background)
     except (EditorsError, OSError) as error:
-        return _failed(str(error))
+        return _failed(reason_of(error))
     finally:
         unsaved = keeper.close()
         if unsaved:
@@ -139,7 +139,7 @@ def _socket(server: Server, asked: argparse.Namespace) -> Iterator[None]:
         try:
             door = stack.enter_context(Door(server.calls, asked.file, lambda name: _address(server, name)))
         except (OSError, SocketTaken) as error:
-            print(f"sfstore-web: no program can connect: {error}", file=sys.stderr)
+            print(f"sfstore-web: no program can connect: {reason_of(error)}", file=sys.stderr)
         else:
             count = lambda: door.count
             threading.Thread(target=door.serve_forever, daemon=True).start()
@@ -187,7 +187,7 @@ def _open(opening: Opening, address: str) -> None:
     try:
         opening.open(address)
     except OSError as error:
-        print(f"sfstore-web: no browser is opened: {error}", file=sys.stderr)
+        print(f"sfstore-web: no browser is opened: {reason_of(error)}", file=sys.stderr)
 
 
 def _obey(server: Server) -> None:

@@ -10,6 +10,7 @@ from collections.abc import Callable, Sequence
 from concurrent.futures import ThreadPoolExecutor
 from typing import NamedTuple, TypeVar, cast
 
+from sfstore.commandline import reason_of
 from sfstore.journal import JournalError
 from sfstore.program import is_edit
 from sfstore.store import Answer, Editor, ProgramEnded, Refused, Store
@@ -160,7 +161,7 @@ class Keeper:
             except (JournalError, OSError) as error:
                 # A save has taken its place.
                 if self.is_at(begun.file):
-                    raise Unavailable(f"{error}. Every edit that was answered is in the journal.") from error
+                    raise Unavailable(f"{reason_of(error)}. Every edit that was answered is in the journal.") from error
 
     def is_at(self, file: int) -> bool:
         """Whether the file is the one of a snapshot."""
@@ -173,6 +174,10 @@ class Keeper:
     def done(self) -> list[Step]:
         """What was done since the last save and is not undone, in its order."""
         return self._do(lambda store: self._steps.done)
+
+    def editors(self) -> set[int]:
+        """The numbers of those whose steps can be undone or redone. It may be asked by any thread."""
+        return self._steps.editors
 
     def close(self) -> int:
         """Ends the program, and gives the number of edits that are in the journal alone."""
@@ -193,7 +198,7 @@ class Keeper:
         except (JournalError, ProgramEnded, RuntimeError, OSError) as error:
             if self._store is not None and not self._is_open(self._store):
                 self._drop()
-            raise Unavailable(f"{error}. Every edit that was answered is in the journal.") from error
+            raise Unavailable(f"{reason_of(error)}. Every edit that was answered is in the journal.") from error
 
     def _limited(self, store: Store, lines: int, job: Callable[[], _T]) -> _T:
         """Does a job of so many lines. Where it takes too long, its program is ended, and the store opened anew next time.

@@ -98,6 +98,11 @@ class Steps:
         return list(self._done)
 
     @property
+    def editors(self) -> set[int]:
+        """The numbers of those whose steps can be undone or redone. It may be asked by any thread."""
+        return {step.editor for step in [*self._done, *self._undone]}
+
+    @property
     def to_undo(self) -> Step | None:
         """The step that an undo would take back, whoever asks."""
         return self._done[-1] if self._done else None

@@ -110,7 +110,8 @@ class Styles:
         try:
             self._styles = _read(self._path)
         except (OSError, StyleError) as error:
-            self.fault = f"{self._path} can't be read: {error}. Layers look as they do without it, until it is mended or taken away."
+            why = error.strerror if isinstance(error, OSError) else error
+            self.fault = f"{self._path} can't be read: {why}. Layers look as they do without it, until it is mended or taken away."
 
     def all(self) -> Mapping[str, Style]:
         """The styles by the names of layers; a layer without one is not there."""

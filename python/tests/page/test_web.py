@@ -209,6 +209,30 @@ class People(WebCase):
         self.assertEqual(ann.refused("undo")["whose"]["editor"], "Ben Ito")
         self.assertEqual(ben.answer("undo"), "ok")
 
+    def test_a_number_whose_steps_can_be_undone_is_nobody_elses(self):
+        with Store(self.path, journal=True, program=PROGRAM) as store:
+            store.add_layer("w", "point")
+            store.editor(1).add("w", "POINT (1 1)")
+            store.editor(3).add("w", "POINT (2 2)")
+            store.editor(3).undo()
+            store.close(save=False)
+        serving = self.serve()
+        ann, ben = serving.log_in("Ann"), serving.log_in("Ben")
+        self.assertEqual((ann.editor, ben.editor), (2, 4))
+        self.assertEqual(ann.refused("undo")["whose"]["editor"], "editor 1")
+        self.assertEqual(ben.refused("redo")["whose"]["editor"], "editor 3")
+        ben.line("save")
+        # Nobody can undo what is saved.
+        self.assertEqual(serving.log_in("Cid").editor, 1)
+
+    def test_who_comes_once_the_names_are_gone_gets_nobodys_steps(self):
+        serving = self.serve()
+        serving.log_in("Ann").line("layer add w point")
+        serving.end(signal.SIGKILL)
+        self.path.with_name("town.sfs.editors").unlink()
+        ben = self.serve().log_in("Ben")
+        self.assertEqual((ben.editor, ben.refused("undo")["whose"]["editor"]), (2, "editor 1"))
+
     def test_what_is_no_name(self):
         serving = self.serve()
         link = link_of(serving.owners_address)
@@ -552,6 +576,23 @@ class Ending(WebCase):
         self.assertIn("third.sfs.editors can't be read", self.failed(third))
         with self.assertRaises(JournalError):
             Store(other, journal=True, program=PROGRAM)
+
+    def test_what_stands_beside_and_can_not_be_read_is_told_in_words(self):
+        self.make(b"layer add w point\n")
+        for ending, data, why in (
+            (".editors", b"{", " can't be read: Expecting"),
+            (".editors", b"[1]", " has no list of names"),
+            (".editors", None, " can't be read: Is a directory"),
+            (".batches", None, ": Is a directory"),
+        ):
+            with self.subTest(ending=ending, data=data):
+                beside = self.path.with_name(self.path.name + ending)
+                if data is None:
+                    beside.mkdir()
+                else:
+                    beside.write_bytes(data)
+                self.assertIn(f"sfstore-web: {beside}{why}", self.failed(self.path))
+                beside.rmdir() if data is None else beside.unlink()
 
     def test_help(self):
         words = [sys.executable, "-m", "sfstore.web.command", "--help"]
