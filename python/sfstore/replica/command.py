@@ -10,7 +10,7 @@ import time
 from collections.abc import Callable
 from pathlib import Path
 
-from sfstore.commandline import add_version, reason_of
+from sfstore.commandline import add_version, counted, reason_of
 from sfstore.journal import JournalError
 from sfstore.replica import owning
 from sfstore.replica.demo import demonstrate
@@ -203,7 +203,11 @@ def _cut(asked: argparse.Namespace) -> int:
 
 def _drop(asked: argparse.Namespace) -> int:
     dropped = owning.drop_before(asked.log, asked.place, asked.alike, asked.older, 60.0)
-    print(f"{dropped} entries are dropped.")
+    stay = owning.state(asked.log).at - asked.place
+    # Places are numbered without a gap.
+    first = asked.place - dropped + 1
+    places = f"places {first:,} to {asked.place:,}" if dropped else f"those up to place {asked.place:,} were dropped before"
+    print(f"{counted(dropped, 'entry is', 'entries are')} dropped: {places}. {counted(stay, 'entry stays', 'entries stay')} behind the cut.")
     return 0
 
 
