@@ -11,7 +11,7 @@ import contextlib
 import os
 import sys
 from collections import Counter
-from collections.abc import Iterator
+from collections.abc import Iterable, Iterator
 from dataclasses import dataclass, replace
 from functools import partial
 from typing import NamedTuple
@@ -33,7 +33,7 @@ from sfstore.exchange.telling import Brought, BroughtFeature, Telling
 from sfstore.language import COLUMN_TYPES, LAYERS_MAX
 from sfstore.refusals import words_of
 from sfstore.results import Column, Refused
-from sfstore.sidecar import Crs, Sidecar
+from sfstore.sidecar import Addition, Crs, Sidecar
 from sfstore.store import Store
 from sfstore.storefile import FileLayer
 
@@ -270,9 +270,15 @@ def _added(wishes: Wishes, store: Store, path: str, sources: list[Source], repor
     with _heard(wishes, report):
         contents, readings = _read_into(wishes, store, layers, known, left, report)
     check_unchanged(sources)
+    # It is noted before: behind an addition that breaks off features may be there.
+    noted = known.with_additions(_additions(wishes, zip(contents, readings)))
+    if noted != known and known.digests:
+        sidecar.write(path, noted, known.digests)
     added = add(store, path, wishes.program, contents)
     names = {content.name: reading.source_name for content, reading in zip(contents, readings)}
     if added.refused is not None:
+        if noted != known and known.digests:
+            sidecar.write(path, known, known.digests)
         report.taken.clear()
         brought = {
             content.name: Brought(names[content.name], partial(_numbered, content, added.identifiers))
@@ -330,6 +336,18 @@ def _read_into(
         contents.append(_fitted(reading.read(), columns, reading.source_name, report))
         readings.append(reading)
     return contents, readings
+
+
+def _additions(wishes: Wishes, read: Iterable[tuple[FileLayer, LayerImport]]) -> Iterator[Addition]:
+    """What is left out of layers that are added, of those that lose something."""
+    source = "" if wishes.source.startswith("PG:") else os.path.basename(wishes.source)
+    for content, reading in read:
+        origin = reading.origin()
+        kept = {column.name for column in content.columns}
+        gone = [column.source_name for column in origin.columns if column.name not in kept]
+        if content.features and (origin.left_out or origin.without or origin.left_columns or gone):
+            left = origin.left_out, origin.without, [*origin.left_columns, *gone]
+            yield Addition(content.name, source, origin.source_name, *left)
 
 
 def _fitted(content: FileLayer, columns: list[Column], source_name: str, report: Report) -> FileLayer:
