@@ -36,7 +36,7 @@ from sfstore.web.raster import png
 from sfstore.web.rows import identifiers_of, ids_of, rows_of
 from sfstore.web.scales import metres_of
 from sfstore.web.steps import Step
-from sfstore.web.styles import StyleError, Styles, renamed_by, style_of
+from sfstore.web.styles import StyleError, Styles, style_of
 from sfstore.web.tables import PAGE_MAX, Reading, Tables, Wanted, conditions_of, labels_of
 from sfstore.web.windows import ELEMENTS_MAX, Box, extent_of, shapes_of, window_of
 
@@ -94,6 +94,7 @@ class Calls:
         self._editors = Editors(path, keeper.editors)
         self.logins = Logins(self._editors)
         self.styles = Styles(path)
+        keeper.ask_layer_changes(self.styles.catch_up)
         self._history = History()
         self._looks = Mirror(keeper, program, seconds, self._history)
         self._pictures = Pictures()
@@ -359,6 +360,7 @@ class Calls:
 
     def _save(self, editor: int) -> Body:
         self._keeper.save()
+        self._keeper.ask_layer_changes(self.styles.catch_up)
         self._history.take(self._editors.name_of(editor), "save", "save")
         self.events.tell({"saved": self._editors.name_of(editor), "undo": None, "redo": None})
         return {"text": f"{self._title} is saved. The history begins anew."}
@@ -407,9 +409,8 @@ class Calls:
         elif len({edit.line for edit in edits}) > 1:
             line, did = f"together {len(edits)}", edits[0].step.line if last.stays else "refused, and taken back"
         changes = [change for edit in edits if edit.stays for change in changed_by(edit.line, edit.step)]
-        for edit in edits:
-            if self.styles.rename(renamed_by(edit)):
-                self.events.tell({"styled": None})
+        if self._keeper.with_layer_changes(self.styles.catch_up):
+            self.events.tell({"styled": None})
         told: Body = {
             "version": last.version,
             "number": last.editor,

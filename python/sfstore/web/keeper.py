@@ -17,7 +17,7 @@ from sfstore.store import Answer, Editor, ProgramEnded, Refused, Store
 from sfstore.web.batches import Batch, Done, LineRefused, carry_out, carry_out_group, is_group, take_back
 from sfstore.web.batchlog import BatchLog, new_mark
 from sfstore.web.changes import Change, Changes, Target, seen_of
-from sfstore.web.steps import Step, Steps
+from sfstore.web.steps import LayerChange, Step, Steps
 
 __all__ = ["Asked", "ChangedMeanwhile", "Edit", "Keeper", "Snapshot", "Unavailable"]
 
@@ -174,6 +174,14 @@ class Keeper:
     def done(self) -> list[Step]:
         """What was done since the last save and is not undone, in its order."""
         return self._do(lambda store: self._steps.done)
+
+    def ask_layer_changes(self, take: Callable[[str, Sequence[LayerChange]], _T]) -> _T:
+        """What somebody makes of all that the journal has made of layers, whose head comes first."""
+        return self._do(lambda store: self.with_layer_changes(take))
+
+    def with_layer_changes(self, take: Callable[[str, Sequence[LayerChange]], _T]) -> _T:
+        """As `ask_layer_changes`, for those whom the keeper calls: in its thread."""
+        return take(self._log.head(), self._steps.layer_changes)
 
     def editors(self) -> set[int]:
         """The numbers of those whose steps can be undone or redone. It may be asked by any thread."""
