@@ -36,7 +36,7 @@ from sfstore.mapunits import MapUnits
 from sfstore.refusals import words_of
 from sfstore.store import ProgramEnded, Refused, Store
 from sfstore.storefile import fault_words
-from sfstore.tools import merge, move_node, split
+from sfstore.tools import NoSplit, merge, move_node, split
 from sfstore.web.windows import Box, extent_of
 
 __all__ = ["Console", "main"]
@@ -228,6 +228,8 @@ class Console:
             self._take(line)
         except Refused as refused:
             self._tell_refused(refused)
+        except NoSplit as error:
+            print(f"{error.why} at {self._units.point_text(error.at)}" if self._units else error)
         except ValueError as error:
             print(f"That line can't be read: {error}")
         except KeyboardInterrupt:
