@@ -129,6 +129,20 @@ class Opening(QgisCase):
         self.assertEqual(self.layer().featureCount(), 200)
         self.assertEqual(len(self.plugin.editings), 3)
 
+    def test_a_project_of_before_lies_where_the_store_says_now(self):
+        file = str(self.folder / "town.qgs")
+        self.assertTrue(QgsProject.instance().write(file))
+        QgsProject.instance().clear()
+        self.turn(0.1)
+        self.place(self.path, grid=["2600000", "1200000", "1"], crs="2056")
+        self.said()
+        self.assertTrue(QgsProject.instance().read(file))
+        self.assertEqual(self.layer().crs().authid(), "EPSG:2056")
+        self.assertEqual(self.layer().geometryOptions().geometryPrecision(), 1)
+        self.assertIn("parcels is shown in the store's reference system, EPSG:2056: the project had EPSG:25832.", self.said())
+        self.session = Session.of(str(self.path))
+        self.assert_alike()
+
     def test_a_project_whose_store_is_not_there_makes_none(self):
         project = str(self.folder / "town.qgs")
         QgsProject.instance().write(project)
@@ -1486,6 +1500,33 @@ class Lost(QgisCase):
         self.assertTrue(self.session.is_connected)
         self.assertFalse(parcels.commitChanges())
         self.assertIn("Ben''s", self.stored()[52])
+
+    def test_another_map_in_its_place_lies_where_it_says(self):
+        parcels = self.layer()
+        parcels.startEditing()
+        self.set(52, "owner", "waits")
+        self.server().kill()
+        self.wait_for(lambda: not self.session.is_connected)
+        self.session._again.stop()
+        self.make(self.lines)
+        self.place(self.path, grid=["2600000", "1200000", "1"], crs="2056")
+        self.session._try_again()
+        self.wait_for(lambda: self.session.is_connected)
+        said = " ".join(self.said())
+        self.assertIn("parcels: The store has another grid or reference system than before, and was read anew. Edits that were not sent", said)
+        self.assertIn("parcels is shown in the store's reference system, EPSG:2056: the project had EPSG:25832.", said)
+        self.assertFalse(parcels.isModified())
+        self.turn(0.3)
+        for layer in self.plugin.editings.values():
+            self.assertEqual(layer.layer.crs().authid(), "EPSG:2056")
+            self.assertGreater(layer.layer.extent().xMinimum(), 2_590_000)
+        self.assertEqual(parcels.geometryOptions().geometryPrecision(), 1)
+        parcels.startEditing()
+        self.draw("POLYGON((2600000 1209000, 2600009 1209000, 2600009 1209009, 2600000 1209000))", owner="there")
+        self.assertTrue(parcels.commitChanges(), parcels.commitErrors())
+        self.assertIn("201 POLYGON ((0 9000, 9 9000, 9 9009, 0 9000)) owner='there'", self.stored()[201])
+        self.settle()
+        self.assert_alike()
 
     def test_the_program_behind_the_server_is_killed(self):
         parcels = self.layer()
