@@ -27,7 +27,7 @@ from qgis.core import (
 from qgis.gui import QgsAttributeEditorContext, QgsAttributeForm, QgsGui
 from qgis.PyQt.QtCore import NULL, QDate, QDateTime, Qt, QTime, QVariant
 from qgis.PyQt.QtWidgets import QApplication, QLineEdit, QPushButton, QTextBrowser
-from qgis_support import CROSSED, SQUARE, Plugin, QgisCase, Session
+from qgis_support import CROSSED, SQUARE, Plugin, QgisCase, Session, at_work
 
 from sfstore_qgis.fields import Places
 from sfstore_qgis.reading import rows_of
@@ -1236,6 +1236,72 @@ class AtOnce(QgisCase):
         self.assertIn(1, self.stored("wells"))
         self.assertFalse(parcels.isModified() or wells.isModified())
         self.assert_alike()
+
+    def test_the_form_of_several_features_is_one_step_or_nothing(self):
+        parcels, ben = self.layer(), self.ben()
+        parcels.startEditing()
+        before = self.stored()
+        self.set_in_form([11, 12, 13], "owner", "Ann's three")
+        self.turn(0.2)
+        self.assertEqual([number for number, row in self.stored().items() if "Ann''s three" in row], [11, 12, 13])
+        self.plugin.move("undo")
+        self.settle()
+        self.assertEqual(self.stored(), before)
+        # Of one of them somebody has changed what the form shows.
+        with mock.patch.object(at_work, "UNSEEN_SECONDS", 30.0):
+            self.bens(ben, "set parcels 12 owner 'Ben'")
+            before = self.stored()
+            self.said()
+            self.set_in_form([11, 12, 13], "owner", "Ann's three")
+            self.turn(0.2)
+        self.assertEqual(self.stored(), before)
+        self.assertIn("Ben changed parcels 12 meanwhile", " ".join(self.said()))
+        self.assertFalse(parcels.isModified())
+        self.assertEqual([self.feature(number)["owner"] for number in (11, 12, 13)].count("Ann's three"), 0)
+        self.assert_alike()
+
+    def test_the_form_of_several_features_does_not_overwrite_what_has_changed_since(self):
+        parcels, ben = self.layer(), self.ben()
+        parcels.startEditing()
+        form = self.form_of([11, 12, 13])
+        self.bens(ben, "set parcels 12 owner 'Ben'")
+        before = self.stored()
+        form.changeAttribute("owner", "Ann's three")
+        self.assertTrue(form.save())
+        self.turn(0.2)
+        self.assertEqual(self.stored(), before)
+        self.assertIn("Ben changed parcels 12 meanwhile", " ".join(self.said()))
+        # Who was told of it has looked again.
+        form.changeAttribute("owner", "Ann's own")
+        self.assertTrue(form.save())
+        self.turn(0.2)
+        self.assertEqual([number for number, row in self.stored().items() if "Ann''s own" in row], [11, 12, 13])
+        self.bens(ben, "set parcels 11 owner 'Ben'")
+        form.close()
+        self.set(11, "owner", "Ann")
+        self.turn(0.2)
+        self.assertIn("Ann", self.stored()[11])
+        self.assert_alike()
+
+    def set_in_form(self, numbers, column, text):
+        """Types a text for several features in the form that QGIS has for them, and saves it."""
+        form = self.form_of(numbers)
+        form.changeAttribute(column, text)
+        self.assertTrue(form.save())
+        form.close()
+
+    def form_of(self, numbers):
+        """The form that QGIS has for several features."""
+        QgsGui.editorWidgetRegistry().initEditors()
+        context = QgsAttributeEditorContext()
+        context.setAttributeFormMode(QgsAttributeEditorContext.MultiEditMode)
+        form = QgsAttributeForm(self.layer(), QgsFeature(), context)
+        self.addCleanup(form.deleteLater)
+        form.setMode(QgsAttributeEditorContext.MultiEditMode)
+        form.setMultiEditFeatureIds([self.fid(number) for number in numbers])
+        form.show()
+        self.turn(0.1)
+        return form
 
     def test_qgis_own_actions_move_the_stores_steps(self):
         parcels = self.window.active = self.layer()

@@ -332,6 +332,7 @@ class Plugin:
         editing.is_prepared = False
         if outcome is not None and outcome.fault is not None:
             self.teller.refuse(editing.layer.name(), outcome.fault, editing.session)
+            editing.forget_refused()
             self._look_at(editing)
         elif outcome is not None and editing.layer.isEditable() and editing.layer.isModified():
             editing.settle()
