@@ -281,22 +281,22 @@ def _sidecar(content: dict[str, Any]) -> Sidecar:
 
 def _layer(content: dict[str, Any]) -> LayerOrigin:
     columns = list(map(_column, content.pop("columns")))
-    left = _left(content)
-    return LayerOrigin(columns=columns, **left, **_texts(content))
+    left_out, without, left_columns = _left(content)
+    return LayerOrigin(columns=columns, left_out=left_out, without=without, left_columns=left_columns, **_texts(content))
 
 
 def _addition(content: dict[str, Any]) -> Addition:
-    left = _left(content)
-    return Addition(**left, **_texts(content))
+    left_out, without, left_columns = _left(content)
+    return Addition(left_out=left_out, without=without, left_columns=left_columns, **_texts(content))
 
 
-def _left(content: dict[str, Any]) -> dict[str, Any]:
+def _left(content: dict[str, Any]) -> tuple[list[int], list[int], list[str]]:
     """Takes what was left out of the content of a layer or an addition."""
-    left: dict[str, Any] = {name: _numbers(content.pop(name, "")) for name in _LEFT}
+    left_out, without = (_numbers(content.pop(name, "")) for name in _LEFT)
     left_columns = content.pop("left_columns", [])
     if not isinstance(left_columns, list) or not all(isinstance(name, str) for name in left_columns):
         raise TypeError(f"{left_columns!r} is no list of names")
-    return {**left, "left_columns": left_columns}
+    return left_out, without, left_columns
 
 
 def _left_told(layer: LayerOrigin | Addition) -> dict[str, Any]:

@@ -116,8 +116,9 @@ def _left_out(wishes: Wishes, parts: list[Part], found: Sidecar) -> list[str]:
         return []
     told = []
     for part in parts:
-        additions = [each for each in found.additions if each.name == part.layer.name]
-        for left, what in [(part.origin, "its import"), *((each, f"the addition of {_shown_source(each)}") for each in additions)]:
+        lefts: list[tuple[LayerOrigin | Addition, str]] = [(part.origin, "its import")]
+        lefts += [(each, f"the addition of {_shown_source(each)}") for each in found.additions if each.name == part.layer.name]
+        for left, what in lefts:
             words = _left_words(left)
             if words:
                 told.append(f"{part.name} is without what {what} has left out: {'; '.join(words)}. What is replaced may have them")
