@@ -11,6 +11,8 @@ import sys
 import threading
 import time
 from collections.abc import Callable, Iterator
+from importlib.util import find_spec
+from typing import TYPE_CHECKING
 
 from sfstore.commandline import add_version, counted, reason_of, recovered_words
 from sfstore.journal import JournalError, path_of
@@ -22,8 +24,10 @@ from sfstore.web.editors import EditorsError
 from sfstore.web.keeper import Keeper
 from sfstore.web.logins import LINK_SECONDS
 from sfstore.web.opening import Opening, has_screen
-from sfstore.web.server import Server
 from sfstore.web.socketed import Door, SocketTaken
+
+if TYPE_CHECKING:
+    from sfstore.web.server import Server
 
 __all__ = ["main"]
 
@@ -48,6 +52,8 @@ def main(words: list[str] | None = None) -> int:
         background = background_of(asked.background, asked.credit) if asked.background else None
     except ValueError as error:
         parser.error(str(error))
+    if not _has_h11():
+        return _failed("the page needs h11 for Python (Debian's package python3-h11)")
     try:
         keeper = Keeper(asked.file, asked.program, _EDIT_TIMES * asked.seconds)
     except ProgramEnded as ended:
@@ -113,8 +119,19 @@ def _failed(reason: str) -> int:
     return 3
 
 
+def _has_h11() -> bool:
+    try:
+        return find_spec("h11") is not None
+    except ValueError:
+        # It was tried before, in vain.
+        return False
+
+
 def _serve(asked: argparse.Namespace, keeper: Keeper, background: Background | None) -> int:
     """Serves the page until Ctrl-C, or until the process is told to end."""
+    # Behind the look whether h11 is there.
+    from sfstore.web.server import Server
+
     calls = Calls(asked.file, keeper, asked.program, asked.seconds, background)
     try:
         if calls.styles.fault:
