@@ -191,7 +191,7 @@ def read(store: str, is_same_map: bool = False) -> Sidecar:
     if not is_same_map:
         raise SidecarError(_not_of(store))
     write(store, found, [digest])
-    return found
+    return replace(found, digests=[digest])
 
 
 def check_none(store: str) -> None:

@@ -202,8 +202,9 @@ def _cut(asked: argparse.Namespace) -> int:
 
 
 def _drop(asked: argparse.Namespace) -> int:
-    dropped = owning.drop_before(asked.log, asked.place, asked.alike, asked.older, 60.0)
+    # It is asked before: what is dropped is said, whatever becomes of the connection then.
     stay = owning.state(asked.log).at - asked.place
+    dropped = owning.drop_before(asked.log, asked.place, asked.alike, asked.older, 60.0)
     # Places are numbered without a gap.
     first = asked.place - dropped + 1
     places = f"places {first:,} to {asked.place:,}" if dropped else f"those up to place {asked.place:,} were dropped before"

@@ -2,6 +2,7 @@
 
 from __future__ import annotations
 
+import contextlib
 import os
 import time
 from base64 import b64encode
@@ -409,8 +410,10 @@ class Calls:
         elif len({edit.line for edit in edits}) > 1:
             line, did = f"together {len(edits)}", edits[0].step.line if last.stays else "refused, and taken back"
         changes = [change for edit in edits if edit.stays for change in changed_by(edit.line, edit.step)]
-        if self._keeper.with_layer_changes(self.styles.catch_up):
-            self.events.tell({"styled": None})
+        # The edit is carried out, whether the head of the journal can be read now or not.
+        with contextlib.suppress(OSError):
+            if self._keeper.with_layer_changes(self.styles.catch_up):
+                self.events.tell({"styled": None})
         told: Body = {
             "version": last.version,
             "number": last.editor,
