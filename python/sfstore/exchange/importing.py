@@ -25,7 +25,7 @@ from sfstore.exchange.layers import Layer, Source
 from sfstore.exchange.names import Names
 from sfstore.exchange.publishing import check_target, publish
 from sfstore.exchange.reading import LayerImport, Taking
-from sfstore.exchange.reports import FEATURE_FORMATS, Report
+from sfstore.exchange.reports import FEATURE_FORMATS, Report, check_replaced
 from sfstore.exchange.sources import check_unchanged, open_source
 from sfstore.exchange.stamps import stamps_of
 from sfstore.exchange.suggesting import suggestion
@@ -513,6 +513,8 @@ def _bring_in(asked: argparse.Namespace, grid: Grid | None) -> int:
     for path in (asked.report, asked.faulty):
         if path and os.path.lexists(path) and not asked.overwrite:
             raise ogr.ExchangeError(f"{path} is there already: --overwrite replaces it")
+        if path and os.path.isfile(path):
+            check_replaced(path)
     wishes = Wishes(
         asked.source,
         asked.file,
