@@ -9,6 +9,7 @@ from __future__ import annotations
 import argparse
 import contextlib
 import os
+import re
 import sys
 from collections import Counter
 from collections.abc import Iterable, Iterator
@@ -38,6 +39,10 @@ from sfstore.store import Store
 from sfstore.storefile import FileLayer
 
 __all__ = ["Result", "Wishes", "add_in", "bring_in", "main", "parser"]
+
+
+# How much of the name of a reference system is shown.
+_NAME_SHOWN = 80
 
 
 @dataclass(frozen=True)
@@ -392,6 +397,14 @@ def _is_same(crs: Crs | None, other: Crs | None) -> bool:
     return crs == other
 
 
+def _shown_crs(crs: Crs | None) -> str:
+    """A reference system by its code, else by the name in its text: two without a code may be two."""
+    if crs is None or crs.code:
+        return str(crs or "none")
+    name = re.search(r'"([^"]+)"', crs.wkt)
+    return f"{crs} ({ogr.printable(name[1][:_NAME_SHOWN])})" if name else str(crs)
+
+
 def _of_one_crs(
     layers: list[_SourceLayer], report: Report, wanted: Crs | None = None
 ) -> tuple[Crs | None, list[_SourceLayer]]:
@@ -408,7 +421,7 @@ def _of_one_crs(
         if not taken and wanted is None:
             crs = its_crs
         if not _is_same(its_crs, crs):
-            detail = f"{its_crs or 'none'} in place of {crs or 'none'}: the layer is left out"
+            detail = f"{_shown_crs(its_crs)} in place of {_shown_crs(crs)}: the layer is left out"
             report.problem(found.name, None, "another reference system", detail)
             continue
         taken.append(found)

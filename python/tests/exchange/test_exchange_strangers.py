@@ -490,6 +490,20 @@ class Views(ExchangeCase):
 
 
 class Odd(ExchangeCase):
+    def test_reference_systems_without_a_code_are_told_by_their_names(self):
+        source = Source(self.source)
+        for name in ("wells", "zones"):
+            source.layer(name, {1: (POINT, {})}, ogr.wkbPoint)
+        source.close()
+        with contextlib.closing(sqlite3.connect(self.source)) as data:
+            for table in ("gpkg_geometry_columns", "gpkg_contents"):
+                data.execute(f"UPDATE {table} SET srs_id = CASE table_name WHEN 'wells' THEN 0 ELSE -1 END")
+            data.commit()
+        status, out, _ = bring_in(self.source, self.store, *GRID, "--overwrite")
+        self.assertEqual(status, 1)
+        systems = "one without a code (Undefined Cartesian SRS) in place of one without a code (Undefined geographic SRS)"
+        self.assertIn(f"another reference system: {systems}: the layer is left out", out)
+
     def test_names_that_are_not_utf_8(self):
         """A Shapefile whose names and texts are Latin-1, while it says UTF-8."""
         self.source = self.folder / "s.shp"
