@@ -168,12 +168,12 @@ class Calls(WebCase):
         self.serving = self.serve()
         self.assertEqual(self.styles(), {"sources": {"size": 5}})
         # What was there before the server began can be undone, and is followed once.
-        self.serving.end(signal.SIGKILL)
+        self.serving.end()
         self.alone(b"undo\nundo\n", "--keep")
         self.serving = self.serve()
         self.assertEqual(self.styles(), {"sources": {"size": 5}, "streets": {"width": 2}})
         self.serving.log_in("Ann").line("save")
-        self.serving.end(signal.SIGKILL)
+        self.serving.end()
         # A save begins a journal of the same length.
         self.alone(b"layer rename sources wells\n", "--keep")
         self.serving = self.serve()
