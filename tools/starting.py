@@ -26,6 +26,7 @@ NO_TOOLCHAIN = (
 # Packages of Debian by the module that shows whether they are there.
 COMFORT = {"prompt_toolkit": "python3-prompt-toolkit", "rich": "python3-rich"}
 MAPS = {"osgeo": "python3-gdal"}
+PAGE = {"h11": "python3-h11"}
 
 
 class Missing(Exception):
@@ -129,7 +130,7 @@ def main() -> int:
         print(f"start: {fault}", file=sys.stderr)
         return 2
     at_console = asked.console or not has_screen()
-    python = python_with(COMFORT, needed=False) if at_console else sys.executable
+    python = python_with(COMFORT if at_console else PAGE, needed=False)
     module = "sfstore.console" if at_console else "sfstore.web.command"
     print(f"{'The console' if at_console else 'The page'} of {store}:", flush=True)
     os.execve(python, [python, "-m", module, str(store)], environment())

@@ -9,7 +9,7 @@ from importlib import metadata
 from pathlib import Path
 from typing import Any
 
-__all__ = ["add_version", "counted", "recovered_words", "unsaved_question", "version_lines"]
+__all__ = ["add_version", "counted", "reason_of", "recovered_words", "unsaved_question", "version_lines"]
 
 _MODULE = Path(__file__).resolve().parent
 # The lines of BUILT, which the package has among its documents, that say what it is and what it was made of.
@@ -24,6 +24,19 @@ def counted(count: int, one: str, several: str) -> str:
     ('1 edit is', '12,000 edits are')
     """
     return f"{count:,} {one if count == 1 else several}"
+
+
+def reason_of(error: BaseException) -> str:
+    """Why something was not done, in words: of a file its name and what is the matter, without a number of the system's.
+
+    >>> reason_of(FileNotFoundError(2, "No such file or directory", "town.sfs"))
+    'town.sfs: No such file or directory'
+    """
+    # Some of our own errors are the system's too, and have words of their own.
+    if not isinstance(error, OSError) or type(error).__str__ is not OSError.__str__ or not error.strerror:
+        return str(error)
+    path = error.filename
+    return f"{os.fsdecode(path)}: {error.strerror}" if isinstance(path, (str, bytes)) else error.strerror
 
 
 def recovered_words(edits: int) -> str:

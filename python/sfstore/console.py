@@ -23,7 +23,7 @@ from pathlib import Path
 from typing import Protocol
 
 from sfstore import files, sidecar
-from sfstore.commandline import add_version, recovered_words, unsaved_question
+from sfstore.commandline import add_version, reason_of, recovered_words, unsaved_question
 from sfstore.commands import candidates, help_text, near_words
 from sfstore.exchange import exporting, importing
 from sfstore.faults import fault_at, fault_of
@@ -36,7 +36,7 @@ from sfstore.mapunits import MapUnits
 from sfstore.refusals import words_of
 from sfstore.store import ProgramEnded, Refused, Store
 from sfstore.storefile import fault_words
-from sfstore.tools import merge, move_node, split
+from sfstore.tools import NoSplit, merge, move_node, split
 from sfstore.web.windows import Box, extent_of
 
 __all__ = ["Console", "main"]
@@ -228,6 +228,8 @@ class Console:
             self._take(line)
         except Refused as refused:
             self._tell_refused(refused)
+        except NoSplit as error:
+            print(f"{error.why} at {self._units.point_text(error.at)}" if self._units else error)
         except ValueError as error:
             print(f"That line can't be read: {error}")
         except KeyboardInterrupt:
@@ -236,9 +238,9 @@ class Console:
             self._open_anew(f"{error}.")
         except (JournalError, OSError, RuntimeError) as error:
             if self._is_open():
-                print(f"{error}.")
+                print(f"{reason_of(error)}.")
             else:
-                self._open_anew(f"{error}.")
+                self._open_anew(f"{reason_of(error)}.")
 
     def _take(self, line: str) -> None:
         """Has a line done by the console itself, or by the program; one of a group waits for the others."""
@@ -305,7 +307,7 @@ class Console:
             found = sidecar.read(self._path)
             self._units = MapUnits(*found.grid)
         except (sidecar.SidecarError, OSError, ValueError) as error:
-            print(f"Coordinates are steps of the grid: {error}")
+            print(f"Coordinates are steps of the grid: {reason_of(error)}")
             return
         system = f" ({found.crs})" if found.crs else ""
         print(f"Coordinates are those of the map{system}, whole steps of {self._units.step}. With --steps they are counted in steps.")
@@ -551,7 +553,7 @@ def main(words: list[str] | None = None) -> int:
         print("Interrupted: every edit that was answered is in the journal.", file=sys.stderr)
         return 3
     except (JournalError, OSError) as error:
-        print(f"sfstore-console: {error}", file=sys.stderr)
+        print(f"sfstore-console: {reason_of(error)}", file=sys.stderr)
         return 3
     return 0
 

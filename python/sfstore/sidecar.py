@@ -11,14 +11,15 @@ import itertools
 import json
 import os
 import re
-from collections.abc import Callable
-from dataclasses import asdict, dataclass, field
+from collections.abc import Callable, Iterable
+from dataclasses import asdict, dataclass, field, replace
 from typing import Any
 
 from sfstore import files
 
 __all__ = [
     "LEFT_MAX",
+    "Addition",
     "ColumnOrigin",
     "Crs",
     "LayerOrigin",
@@ -43,6 +44,8 @@ _LEFT = ("left_out", "without")
 _RANGE = re.compile("(-?[0-9]{1,20})(?:-(-?[0-9]{1,20}))?")
 # Why a file that is there can't be read just now, though it may be the next time.
 _PASSING = {errno.EAGAIN, errno.EINTR, errno.EIO, errno.EMFILE, errno.ENFILE, errno.ENOMEM, errno.ENOSPC, errno.ESTALE}
+# How many sources it names at most that were added.
+_ADDITIONS_MAX = 1_000
 _BESIDE = (".json", ".json.next", ".journal", ".journal.lock", ".lock", ".editors", ".batches", ".styles")
 
 
@@ -99,6 +102,29 @@ class LayerOrigin:
 
 
 @dataclass(frozen=True)
+class Addition:
+    """What was left out of a source whose features were added to a layer."""
+
+    name: str
+    """The layer in the store."""
+    source: str
+    """The file that was added; empty where it was a database."""
+    source_name: str
+    """The layer in the source."""
+    left_out: list[int] = field(default_factory=list)
+    """As `LayerOrigin` has them, and the others too."""
+    without: list[int] = field(default_factory=list)
+    left_columns: list[str] = field(default_factory=list)
+
+    def and_(self, other: Addition) -> Addition:
+        """What was left out of the same source twice."""
+        left_out = sorted({*self.left_out, *other.left_out})[:LEFT_MAX]
+        without = sorted({*self.without, *other.without})[:LEFT_MAX]
+        columns = list(dict.fromkeys([*self.left_columns, *other.left_columns]))
+        return replace(self, left_out=left_out, without=without, left_columns=columns)
+
+
+@dataclass(frozen=True)
 class Sidecar:
     """What stands in the file."""
 
@@ -108,6 +134,20 @@ class Sidecar:
     layers: list[LayerOrigin]
     digests: list[str] = field(default_factory=list)
     """The SHA-256 of the store's file, and of the one that is about to take its place."""
+    additions: list[Addition] = field(default_factory=list)
+
+    def with_additions(self, additions: Iterable[Addition]) -> Sidecar:
+        """With what was left out of further sources."""
+        known = {_key(addition): addition for addition in self.additions}
+        for addition in additions:
+            before = known.get(_key(addition))
+            known[_key(addition)] = before.and_(addition) if before else addition
+        return replace(self, additions=list(known.values())[-_ADDITIONS_MAX:])
+
+
+def _key(addition: Addition) -> tuple[str, str, str]:
+    """The source of an addition, and the layer that it was added to."""
+    return addition.name, addition.source, addition.source_name
 
 
 def path_of(store: str) -> str:
@@ -151,7 +191,7 @@ def read(store: str, is_same_map: bool = False) -> Sidecar:
     if not is_same_map:
         raise SidecarError(_not_of(store))
     write(store, found, [digest])
-    return found
+    return replace(found, digests=[digest])
 
 
 def check_none(store: str) -> None:
@@ -175,8 +215,9 @@ def _not_of(store: str) -> str:
 
 def write(store: str, found: Sidecar, digests: list[str]) -> None:
     """Writes the side-car of a store's file, whole or not at all, for files of these digests."""
-    layers = [_layer_told(layer) for layer in found.layers]
-    content = {"format": _FORMAT, **asdict(found), "layers": layers, "digests": digests}
+    layers = [_left_told(layer) for layer in found.layers]
+    additions = [_left_told(addition) for addition in found.additions]
+    content = {"format": _FORMAT, **asdict(found), "layers": layers, "digests": digests, "additions": additions}
     with files.whole_file(path_of(store), store) as beside:
         with open(beside, "w", encoding="utf-8") as file:
             # In ASCII, since half a pair of surrogates has no place in UTF-8.
@@ -231,20 +272,35 @@ def _sidecar(content: dict[str, Any]) -> Sidecar:
     crs = content["crs"]
     layers = list(map(_layer, content["layers"]))
     known = None if crs is None else Crs(**_texts(crs))
-    return Sidecar((x, y, step), known, layers, list(map(str, content["digests"])))
+    # Those of former versions name no additions.
+    additions = list(map(_addition, content.get("additions", [])))
+    if len(additions) > _ADDITIONS_MAX:
+        raise ValueError(f"more than {_ADDITIONS_MAX:,} additions")
+    return Sidecar((x, y, step), known, layers, list(map(str, content["digests"])), additions)
 
 
 def _layer(content: dict[str, Any]) -> LayerOrigin:
     columns = list(map(_column, content.pop("columns")))
+    left_out, without, left_columns = _left(content)
+    return LayerOrigin(columns=columns, left_out=left_out, without=without, left_columns=left_columns, **_texts(content))
+
+
+def _addition(content: dict[str, Any]) -> Addition:
+    left_out, without, left_columns = _left(content)
+    return Addition(left_out=left_out, without=without, left_columns=left_columns, **_texts(content))
+
+
+def _left(content: dict[str, Any]) -> tuple[list[int], list[int], list[str]]:
+    """Takes what was left out of the content of a layer or an addition."""
     left_out, without = (_numbers(content.pop(name, "")) for name in _LEFT)
     left_columns = content.pop("left_columns", [])
     if not isinstance(left_columns, list) or not all(isinstance(name, str) for name in left_columns):
         raise TypeError(f"{left_columns!r} is no list of names")
-    return LayerOrigin(columns=columns, left_out=left_out, without=without, left_columns=left_columns, **_texts(content))
+    return left_out, without, left_columns
 
 
-def _layer_told(layer: LayerOrigin) -> dict[str, Any]:
-    """A layer as it is written. Former versions know nothing of what was left out, and take a layer without it."""
+def _left_told(layer: LayerOrigin | Addition) -> dict[str, Any]:
+    """A layer or an addition as it is written. Former versions take a layer without what was left out."""
     told = asdict(layer)
     told.update({name: _ranges(told[name]) for name in _LEFT})
     return {name: each for name, each in told.items() if each or name not in (*_LEFT, "left_columns")}

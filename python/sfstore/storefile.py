@@ -13,7 +13,7 @@ from datetime import date, datetime, time, timedelta, timezone
 from decimal import Decimal
 from typing import BinaryIO, NamedTuple, cast, overload
 
-from sfstore import values
+from sfstore import files, values
 from sfstore.language import PREDICATES
 from sfstore.refusals import BAD_FIELDS
 from sfstore.results import RULE_BROKEN, Rule, RuleForm, Value
@@ -30,6 +30,7 @@ __all__ = [
     "FileLayer",
     "fault_words",
     "field_at",
+    "is_store",
     "read",
     "read_with_rules",
     "write",
@@ -41,7 +42,15 @@ INT, TEXT, DECIMAL, BOOL, DATE, DATETIME = range(1, 7)
 _MAGIC = b"SFSTORE4\x1f"
 _NO_RULES = struct.pack(">H", 0)
 _VERSIONS = {b"SFSTORE1": 1, b"SFSTORE2": 2, b"SFSTORE3": 3, b"SFSTORE4": 4}
+# What the file of each version begins with.
+_ANY_MAGIC = b"SFSTORE"
 _FORMS: dict[int, RuleForm] = {1: "never", 2: "each"}
+
+
+def is_store(path: str) -> bool:
+    """Whether a file begins as a store's does, of whatever version, or is empty. `OSError` where it can't be read."""
+    with open(path, "rb", opener=files.opened) as file:
+        return file.read(len(_ANY_MAGIC)) in (_ANY_MAGIC, b"")
 
 
 class FileColumn(NamedTuple):

@@ -27,7 +27,7 @@ from qgis.core import (
 from qgis.gui import QgsAttributeEditorContext, QgsAttributeForm, QgsGui
 from qgis.PyQt.QtCore import NULL, QDate, QDateTime, Qt, QTime, QVariant
 from qgis.PyQt.QtWidgets import QApplication, QLineEdit, QPushButton, QTextBrowser
-from qgis_support import CROSSED, SQUARE, Plugin, QgisCase, Session
+from qgis_support import CROSSED, SQUARE, Plugin, QgisCase, Session, at_work
 
 from sfstore_qgis.fields import Places
 from sfstore_qgis.reading import rows_of
@@ -128,6 +128,20 @@ class Opening(QgisCase):
         self.assertTrue(QgsProject.instance().read(file))
         self.assertEqual(self.layer().featureCount(), 200)
         self.assertEqual(len(self.plugin.editings), 3)
+
+    def test_a_project_of_before_lies_where_the_store_says_now(self):
+        file = str(self.folder / "town.qgs")
+        self.assertTrue(QgsProject.instance().write(file))
+        QgsProject.instance().clear()
+        self.turn(0.1)
+        self.place(self.path, grid=["2600000", "1200000", "1"], crs="2056")
+        self.said()
+        self.assertTrue(QgsProject.instance().read(file))
+        self.assertEqual(self.layer().crs().authid(), "EPSG:2056")
+        self.assertEqual(self.layer().geometryOptions().geometryPrecision(), 1)
+        self.assertIn("parcels is shown in the store's reference system, EPSG:2056: the project had EPSG:25832.", self.said())
+        self.session = Session.of(str(self.path))
+        self.assert_alike()
 
     def test_a_project_whose_store_is_not_there_makes_none(self):
         project = str(self.folder / "town.qgs")
@@ -1223,6 +1237,72 @@ class AtOnce(QgisCase):
         self.assertFalse(parcels.isModified() or wells.isModified())
         self.assert_alike()
 
+    def test_the_form_of_several_features_is_one_step_or_nothing(self):
+        parcels, ben = self.layer(), self.ben()
+        parcels.startEditing()
+        before = self.stored()
+        self.set_in_form([11, 12, 13], "owner", "Ann's three")
+        self.turn(0.2)
+        self.assertEqual([number for number, row in self.stored().items() if "Ann''s three" in row], [11, 12, 13])
+        self.plugin.move("undo")
+        self.settle()
+        self.assertEqual(self.stored(), before)
+        # Of one of them somebody has changed what the form shows.
+        with mock.patch.object(at_work, "UNSEEN_SECONDS", 30.0):
+            self.bens(ben, "set parcels 12 owner 'Ben'")
+            before = self.stored()
+            self.said()
+            self.set_in_form([11, 12, 13], "owner", "Ann's three")
+            self.turn(0.2)
+        self.assertEqual(self.stored(), before)
+        self.assertIn("Ben changed parcels 12 meanwhile", " ".join(self.said()))
+        self.assertFalse(parcels.isModified())
+        self.assertEqual([self.feature(number)["owner"] for number in (11, 12, 13)].count("Ann's three"), 0)
+        self.assert_alike()
+
+    def test_the_form_of_several_features_does_not_overwrite_what_has_changed_since(self):
+        parcels, ben = self.layer(), self.ben()
+        parcels.startEditing()
+        form = self.form_of([11, 12, 13])
+        self.bens(ben, "set parcels 12 owner 'Ben'")
+        before = self.stored()
+        form.changeAttribute("owner", "Ann's three")
+        self.assertTrue(form.save())
+        self.turn(0.2)
+        self.assertEqual(self.stored(), before)
+        self.assertIn("Ben changed parcels 12 meanwhile", " ".join(self.said()))
+        # Who was told of it has looked again.
+        form.changeAttribute("owner", "Ann's own")
+        self.assertTrue(form.save())
+        self.turn(0.2)
+        self.assertEqual([number for number, row in self.stored().items() if "Ann''s own" in row], [11, 12, 13])
+        self.bens(ben, "set parcels 11 owner 'Ben'")
+        form.close()
+        self.set(11, "owner", "Ann")
+        self.turn(0.2)
+        self.assertIn("Ann", self.stored()[11])
+        self.assert_alike()
+
+    def set_in_form(self, numbers, column, text):
+        """Types a text for several features in the form that QGIS has for them, and saves it."""
+        form = self.form_of(numbers)
+        form.changeAttribute(column, text)
+        self.assertTrue(form.save())
+        form.close()
+
+    def form_of(self, numbers):
+        """The form that QGIS has for several features."""
+        QgsGui.editorWidgetRegistry().initEditors()
+        context = QgsAttributeEditorContext()
+        context.setAttributeFormMode(QgsAttributeEditorContext.MultiEditMode)
+        form = QgsAttributeForm(self.layer(), QgsFeature(), context)
+        self.addCleanup(form.deleteLater)
+        form.setMode(QgsAttributeEditorContext.MultiEditMode)
+        form.setMultiEditFeatureIds([self.fid(number) for number in numbers])
+        form.show()
+        self.turn(0.1)
+        return form
+
     def test_qgis_own_actions_move_the_stores_steps(self):
         parcels = self.window.active = self.layer()
         undo, redo = self.window.action("mActionUndo"), self.window.action("mActionRedo")
@@ -1486,6 +1566,33 @@ class Lost(QgisCase):
         self.assertTrue(self.session.is_connected)
         self.assertFalse(parcels.commitChanges())
         self.assertIn("Ben''s", self.stored()[52])
+
+    def test_another_map_in_its_place_lies_where_it_says(self):
+        parcels = self.layer()
+        parcels.startEditing()
+        self.set(52, "owner", "waits")
+        self.server().kill()
+        self.wait_for(lambda: not self.session.is_connected)
+        self.session._again.stop()
+        self.make(self.lines)
+        self.place(self.path, grid=["2600000", "1200000", "1"], crs="2056")
+        self.session._try_again()
+        self.wait_for(lambda: self.session.is_connected)
+        said = " ".join(self.said())
+        self.assertIn("parcels: The store has another grid or reference system than before, and was read anew. Edits that were not sent", said)
+        self.assertIn("parcels is shown in the store's reference system, EPSG:2056: the project had EPSG:25832.", said)
+        self.assertFalse(parcels.isModified())
+        self.turn(0.3)
+        for layer in self.plugin.editings.values():
+            self.assertEqual(layer.layer.crs().authid(), "EPSG:2056")
+            self.assertGreater(layer.layer.extent().xMinimum(), 2_590_000)
+        self.assertEqual(parcels.geometryOptions().geometryPrecision(), 1)
+        parcels.startEditing()
+        self.draw("POLYGON((2600000 1209000, 2600009 1209000, 2600009 1209009, 2600000 1209000))", owner="there")
+        self.assertTrue(parcels.commitChanges(), parcels.commitErrors())
+        self.assertIn("201 POLYGON ((0 9000, 9 9000, 9 9009, 0 9000)) owner='there'", self.stored()[201])
+        self.settle()
+        self.assert_alike()
 
     def test_the_program_behind_the_server_is_killed(self):
         parcels = self.layer()

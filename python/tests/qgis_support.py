@@ -127,9 +127,10 @@ class QgisCase(WebCase):
         self.plugin.open(str(self.path))
         self.session = Session.of(str(self.path))
 
-    def place(self, path):
+    def place(self, path, grid=None, crs="25832"):
         """Writes the side-car of a store's file."""
-        told = {**SIDECAR, "grid": self.grid, "digests": [files.digest(str(path))]}
+        system = {**SIDECAR["crs"], "code": crs}
+        told = {**SIDECAR, "grid": grid or self.grid, "crs": system, "digests": [files.digest(str(path))]}
         path.with_name(path.name + ".json").write_text(json.dumps(told))
 
     def end(self):

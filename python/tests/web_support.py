@@ -8,6 +8,8 @@ import os
 import signal
 import subprocess
 import sys
+import unittest
+from importlib.util import find_spec
 from urllib.parse import parse_qs
 
 from support import FOLDER, PROGRAM, TestCase
@@ -162,6 +164,7 @@ def link_of(address):
     return link
 
 
+@unittest.skipUnless(find_spec("h11"), "no h11 (apt-get install python3-h11)")
 class WebCase(TestCase):
     """A test with a store's file and servers, which are ended with it."""
 

@@ -13,7 +13,7 @@ from sfstore.results import Column
 from sfstore.web.client import ServerGone
 
 from .fields import FieldsDiffer, check_layer, names_of
-from .forms import shown_in_forms
+from .forms import is_form_of_several_open, shown_in_forms
 from .provider import Outcome, Provider
 from .writing import Edits, Line, added_numbers
 
@@ -66,6 +66,9 @@ class Editing:
         self.base = 0
         self._seen: dict[int, _Seen] = {}
         self._news: dict[int, _News] = {}
+        # Features that others have changed while a form of several ones was open, which may show what was there before: the
+        # version of the store before.
+        self._unread: dict[int, int] = {}
         # The version and the columns that were seen when the first of what was not sent was done.
         self._begun: _Begun | None = None
 
@@ -110,6 +113,10 @@ class Editing:
             return _Seen(news.before, ())
         if any(not self._is_as_stored(number, shown) for shown in shown_in_forms(fid, number)):
             return _Seen(0, ())
+        if self._unread and not is_form_of_several_open():
+            self._unread.clear()
+        if number in self._unread:
+            return _Seen(self._unread[number], ())
         return _Seen(self.session.version, self._content(number))
 
     def _is_as_stored(self, number: int, shown: QgsFeature) -> bool:
@@ -124,10 +131,18 @@ class Editing:
         """Notes features that others have changed, behind a version of the store."""
         now = time.monotonic()
         self._news = {number: news for number, news in self._news.items() if now < news.at + UNSEEN_SECONDS}
-        self._news.update({number: self._news.get(number, _News(now, before))._replace(at=now) for number in numbers})
+        changed = list(numbers)
+        self._news.update({number: self._news.get(number, _News(now, before))._replace(at=now) for number in changed})
+        if is_form_of_several_open():
+            self._unread = {**dict.fromkeys(changed, before), **self._unread}
+
+    def forget_refused(self) -> None:
+        """Notes that it was told why what was edited is refused."""
+        self._unread = {number: before for number, before in self._unread.items() if number not in self._seen}
 
     def forget_taken_back(self) -> None:
         """Forgets what was seen of what was refused and taken back: who edits it again has looked at it again."""
+        self.forget_refused()
         touched = self.touched()
         self._seen = {number: seen for number, seen in self._seen.items() if number in touched}
         if not self.layer.isModified():

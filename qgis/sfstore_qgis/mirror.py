@@ -153,14 +153,15 @@ class Mirror(QObject):
         try:
             yield
         except FieldsDiffer as error:
-            self._begin_anew(f"{error}. It was read anew.")
+            self.begin_anew(f"{error}. It was read anew.")
 
     def check(self) -> None:
         """Reads all anew where the fields are others than those of the columns."""
         with self._agreeing():
             self.fields.check()
 
-    def _begin_anew(self, why: str) -> None:
+    def begin_anew(self, why: str) -> None:
+        """Reads all anew, and says why: what layers over it have not sent is lost."""
         if self._is_beginning_anew:
             return
         self._is_beginning_anew = True

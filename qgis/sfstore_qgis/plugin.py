@@ -194,7 +194,7 @@ class Plugin:
 
     def _follow_layer(self, editing: Editing) -> None:
         layer, mirror = editing.layer, editing.provider.mirror
-        _set_precision(editing)
+        self._place(editing)
         _keep_identifiers(layer)
         self._connect(layer.editingStarted, partial(self._begin, editing))
         self._connect(layer.editingStopped, partial(self._end, editing))
@@ -219,7 +219,25 @@ class Plugin:
             self._connect(session.kind_hidden, self._tell_kind)
             self._connect(session.lost, partial(self._lost, session))
             self._connect(session.renewed, partial(self._renewed, session))
+            self._connect(session.placed_anew, partial(self._placed_anew, session))
             self._connect(session.layers_changed, partial(self.tried, partial(self._tell_layers, session)))
+
+    def _place(self, editing: Editing) -> None:
+        """Has a layer lie where the store says: a project may have been written before the store had this grid."""
+        _set_precision(editing)
+        layer, crs = editing.layer, editing.session.crs
+        if crs.isValid() and layer.crs() != crs:
+            was = layer.crs().authid() or "none"
+            layer.setCrs(crs)
+            words = f"{layer.name()} is shown in the store's reference system, {crs.authid() or 'one without a code'}: the project had {was}."
+            self.teller.tell(words, Qgis.Warning)
+
+    def _placed_anew(self, session: Session) -> None:
+        """Has the layers of a store lie where it says now."""
+        if session.placing_fault:
+            self.teller.tell(session.placing_fault, Qgis.Warning)
+        for editing in self._of(session):
+            self._place(editing)
 
     def _connect(self, signal: Any, slot: Callable[..., object]) -> None:
         """Has a slot follow a signal until the plugin is unloaded.
@@ -314,6 +332,7 @@ class Plugin:
         editing.is_prepared = False
         if outcome is not None and outcome.fault is not None:
             self.teller.refuse(editing.layer.name(), outcome.fault, editing.session)
+            editing.forget_refused()
             self._look_at(editing)
         elif outcome is not None and editing.layer.isEditable() and editing.layer.isModified():
             editing.settle()

@@ -84,7 +84,7 @@ class Provider(QgsVectorDataProvider):
             self.mirror = self.session.mirror(self.source.layer, self.source.kind)
             self.mirror.changed.connect(self._changed)
         except (CallFailed, LayerRefused, OSError, ServerGone) as error:
-            self.pushError(as_shown(str(error)))
+            self.pushError(as_shown(words_of(error)))
 
     def _changed(self) -> None:
         self.updateExtents()

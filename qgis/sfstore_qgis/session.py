@@ -12,6 +12,7 @@ from qgis.core import QgsCoordinateReferenceSystem, QgsMessageLog, QgsSettings
 from qgis.PyQt.QtCore import QObject, QSocketNotifier, QThread, QTimer, pyqtSignal
 
 from sfstore import journal, sidecar
+from sfstore.commandline import reason_of
 from sfstore.exchange.grid import Grid
 from sfstore.results import Column
 from sfstore.web.client import CallFailed, Client, Events, ServerGone, start_server
@@ -56,6 +57,8 @@ class Session(QObject):
     """An edit, or an undo, of whomever: as the server tells it, with the version ``before``, and whether it ``is_own``."""
     layers_changed = pyqtSignal()
     """There are other layers than before."""
+    placed_anew = pyqtSignal()
+    """The grid or the reference system is another one: another map was put in the place of the store."""
     kind_hidden = pyqtSignal(str, str)
     """A layer of any kind has a geometry of a kind that is not shown."""
     lost = pyqtSignal()
@@ -278,14 +281,27 @@ class Session(QObject):
         try:
             start_server(self.path, Session.program, 0.0)
             self._connect(_AGAIN_SECONDS)
+            is_moved = self._place_anew()
             for mirror in self.mirrors.values():
-                mirror.load_anew()
+                if is_moved:
+                    mirror.begin_anew("The store has another grid or reference system than before, and was read anew.")
+                else:
+                    mirror.load_anew()
         except (CallFailed, Refusal, ServerGone):
             self._disconnect()
             self._wait = min(2 * self._wait, _AGAIN_MILLISECONDS_MAX)
             self._again.start(self._wait)
         else:
             self.renewed.emit()
+
+    def _place_anew(self) -> bool:
+        """Takes the grid and the reference system that the store has now. Whether they are others than before."""
+        fault, grid, crs = _placed(self.path)
+        if (grid.words, crs) == (self.grid.words, self.crs):
+            return False
+        self.placing_fault, self.grid, self.crs = fault, grid, crs
+        self.placed_anew.emit()
+        return True
 
     def _hear(self, *_: object) -> None:
         """Takes over what others have changed, and undo and redo."""
@@ -344,7 +360,7 @@ def _placed(path: str) -> tuple[str, Grid, Any]:
     try:
         found = sidecar.read(path)
     except (OSError, sidecar.SidecarError) as error:
-        return f"{error}. Coordinates are shown in steps.", Grid("0", "0", "1"), QgsCoordinateReferenceSystem()
+        return f"{reason_of(error)}. Coordinates are shown in steps.", Grid("0", "0", "1"), QgsCoordinateReferenceSystem()
     return "", Grid(*found.grid), _system(found.crs)
 
 

@@ -14,6 +14,7 @@ from qgis.gui import QgsRubberBand, QgsVertexMarker
 from qgis.PyQt.QtGui import QColor
 from qgis.PyQt.QtWidgets import QPushButton
 
+from sfstore.commandline import reason_of
 from sfstore.exchange.grid import Grid
 from sfstore.geometry import Shape, write_wkb
 
@@ -33,7 +34,7 @@ _REFUSED, _REFUSED_FILL = QColor(220, 0, 0), QColor(220, 0, 0, 40)
 def words_of(error: Exception, place: str = "") -> str:
     """Why something was not done, in words: the place before what helps, as a bar may show the beginning alone."""
     if not isinstance(error, Refusal):
-        return str(error)
+        return reason_of(error)
     told = error.told
     whose = f" ({told['whose']['editor']}: {told['whose']['line']})" if told.get("whose") else ""
     reason = f"{told['reason']}{whose}{f', {place}' if place else ''}{_rule_words(told)}"

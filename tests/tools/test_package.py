@@ -190,6 +190,8 @@ class Package(unittest.TestCase):
         starting = {path.read_bytes().split(b"\n")[0] for path in (self.root / "usr/bin").iterdir() if path.read_bytes().startswith(b"#!")}
         self.assertEqual(starting, {b"#!/usr/bin/python3"})
         self.assertRegex(self.field("Depends"), r"\bpython3\b")
+        # All commands but the page do without, and QGIS starts the page's server.
+        self.assertIn("python3-h11", self.field("Depends"))
         self.assertRegex(self.field("Recommends"), "python3-gdal")
 
     def test_what_python_compiled_goes_with_the_package(self):

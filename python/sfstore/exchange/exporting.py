@@ -16,7 +16,7 @@ from collections.abc import Callable
 from dataclasses import dataclass
 
 from sfstore import files, journal, sidecar
-from sfstore.commandline import add_version
+from sfstore.commandline import add_version, reason_of
 from sfstore.exchange import ogr, outcome, rulesfile, wayback
 from sfstore.exchange.asking import tables_of
 from sfstore.exchange.formats import FORMATS, Part, format_of, parts_of, rules_kept
@@ -29,7 +29,7 @@ from sfstore.exchange.writing import write_data
 from sfstore.geometry import read_wkb
 from sfstore.program import ProgramMissing
 from sfstore.results import Rule
-from sfstore.sidecar import Sidecar
+from sfstore.sidecar import Addition, LayerOrigin, Sidecar
 from sfstore.storefile import FileLayer, fault_words
 from sfstore.storefile import read_with_rules as read_store
 
@@ -98,7 +98,7 @@ def give_back(wishes: Wishes, say: Say) -> None:
         losses += [f"the rule {rule.line}" for rule in rules if rule not in kept]
     for loss in losses:
         say(f"{wishes.format} does not keep {loss}")
-    for line in _left_out(wishes, parts):
+    for line in _left_out(wishes, parts, found):
         say(line)
     _write(wishes, parts, found, kept, say)
     if wishes.grid is not None:
@@ -107,8 +107,8 @@ def give_back(wishes: Wishes, say: Say) -> None:
         _write_rules(wishes, wishes.rules, rules, say)
 
 
-def _left_out(wishes: Wishes, parts: list[Part]) -> list[str]:
-    """What is to be said of layers of which an import has left something out, where a file is replaced that may have it.
+def _left_out(wishes: Wishes, parts: list[Part], found: Sidecar) -> list[str]:
+    """What is to be said of layers of which imports have left something out, where a file is replaced that may have it.
 
     In a database the rows are looked at.
     """
@@ -116,15 +116,26 @@ def _left_out(wishes: Wishes, parts: list[Part]) -> list[str]:
         return []
     told = []
     for part in parts:
-        origin = part.origin
-        words = [
-            *([f"{len(origin.left_out)} features"] if origin.left_out else []),
-            *([f"values of {len(origin.without)} features"] if origin.without else []),
-            *([f"all of {ogr.printable(', '.join(origin.left_columns))}"] if origin.left_columns else []),
-        ]
-        if words:
-            told.append(f"{part.name} is without what its import has left out: {'; '.join(words)}. What is replaced may have them")
+        lefts: list[tuple[LayerOrigin | Addition, str]] = [(part.origin, "its import")]
+        lefts += [(each, f"the addition of {_shown_source(each)}") for each in found.additions if each.name == part.layer.name]
+        for left, what in lefts:
+            words = _left_words(left)
+            if words:
+                told.append(f"{part.name} is without what {what} has left out: {'; '.join(words)}. What is replaced may have them")
     return told
+
+
+def _shown_source(addition: Addition) -> str:
+    return ogr.printable(addition.source) or "a database"
+
+
+def _left_words(left: LayerOrigin | Addition) -> list[str]:
+    """What was left out, in words."""
+    return [
+        *([f"{len(left.left_out)} features"] if left.left_out else []),
+        *([f"values of {len(left.without)} features"] if left.without else []),
+        *([f"all of {ogr.printable(', '.join(left.left_columns))}"] if left.left_columns else []),
+    ]
 
 
 def _blurred(parts: list[Part], grid: Grid) -> list[str]:
@@ -145,7 +156,7 @@ def _write_rules(wishes: Wishes, path: str, rules: list[Rule], say: Say) -> None
     try:
         rulesfile.write(path, rules, wishes.overwrite, _mode(wishes), say)
     except (ogr.ExchangeError, OSError, KeyboardInterrupt) as error:
-        why = "interrupted" if isinstance(error, KeyboardInterrupt) else error
+        why = "interrupted" if isinstance(error, KeyboardInterrupt) else reason_of(error)
         raise ogr.ExchangeError(f"the map is written, but not its rules: {why}") from None
 
 
@@ -154,7 +165,7 @@ def _keep_grid(wishes: Wishes, found: Sidecar) -> None:
     try:
         sidecar.write(wishes.store, found, [files.digest(wishes.store)])
     except OSError as error:
-        raise ogr.ExchangeError(f"the map is written, but not its grid beside the store: {error}") from None
+        raise ogr.ExchangeError(f"the map is written, but not its grid beside the store: {reason_of(error)}") from None
 
 
 def _write(wishes: Wishes, parts: list[Part], found: Sidecar, rules: list[Rule], say: Say) -> None:

@@ -9,15 +9,16 @@ from __future__ import annotations
 import argparse
 import contextlib
 import os
+import re
 import sys
 from collections import Counter
-from collections.abc import Iterator
+from collections.abc import Iterable, Iterator
 from dataclasses import dataclass, replace
 from functools import partial
 from typing import NamedTuple
 
 from sfstore import sidecar
-from sfstore.commandline import add_version
+from sfstore.commandline import add_version, reason_of
 from sfstore.exchange import ogr, outcome, rulesfile, wayback
 from sfstore.exchange.adding import Broken, add
 from sfstore.exchange.grid import Grid
@@ -25,7 +26,7 @@ from sfstore.exchange.layers import Layer, Source
 from sfstore.exchange.names import Names
 from sfstore.exchange.publishing import check_target, publish
 from sfstore.exchange.reading import LayerImport, Taking
-from sfstore.exchange.reports import FEATURE_FORMATS, Report
+from sfstore.exchange.reports import FEATURE_FORMATS, Report, check_replaced
 from sfstore.exchange.sources import check_unchanged, open_source
 from sfstore.exchange.stamps import stamps_of
 from sfstore.exchange.suggesting import suggestion
@@ -33,11 +34,15 @@ from sfstore.exchange.telling import Brought, BroughtFeature, Telling
 from sfstore.language import COLUMN_TYPES, LAYERS_MAX
 from sfstore.refusals import words_of
 from sfstore.results import Column, Refused
-from sfstore.sidecar import Crs, Sidecar
+from sfstore.sidecar import Addition, Crs, Sidecar
 from sfstore.store import Store
 from sfstore.storefile import FileLayer
 
 __all__ = ["Result", "Wishes", "add_in", "bring_in", "main", "parser"]
+
+
+# How much of the name of a reference system is shown.
+_NAME_SHOWN = 80
 
 
 @dataclass(frozen=True)
@@ -270,9 +275,15 @@ def _added(wishes: Wishes, store: Store, path: str, sources: list[Source], repor
     with _heard(wishes, report):
         contents, readings = _read_into(wishes, store, layers, known, left, report)
     check_unchanged(sources)
+    # It is noted before: behind an addition that breaks off features may be there.
+    noted = known.with_additions(_additions(wishes, zip(contents, readings)))
+    if noted != known and known.digests:
+        sidecar.write(path, noted, known.digests)
     added = add(store, path, wishes.program, contents)
     names = {content.name: reading.source_name for content, reading in zip(contents, readings)}
     if added.refused is not None:
+        if noted != known and known.digests:
+            sidecar.write(path, known, known.digests)
         report.taken.clear()
         brought = {
             content.name: Brought(names[content.name], partial(_numbered, content, added.identifiers))
@@ -332,6 +343,18 @@ def _read_into(
     return contents, readings
 
 
+def _additions(wishes: Wishes, read: Iterable[tuple[FileLayer, LayerImport]]) -> Iterator[Addition]:
+    """What is left out of layers that are added, of those that lose something."""
+    source = "" if wishes.source.startswith("PG:") else os.path.basename(wishes.source)
+    for content, reading in read:
+        origin = reading.origin()
+        kept = {column.name for column in content.columns}
+        gone = [column.source_name for column in origin.columns if column.name not in kept]
+        if content.features and (origin.left_out or origin.without or origin.left_columns or gone):
+            left = origin.left_out, origin.without, [*origin.left_columns, *gone]
+            yield Addition(content.name, source, origin.source_name, *left)
+
+
 def _fitted(content: FileLayer, columns: list[Column], source_name: str, report: Report) -> FileLayer:
     """A layer with those of its columns that the store has. The others are reported."""
     types = {column.name: column.type for column in columns}
@@ -374,6 +397,14 @@ def _is_same(crs: Crs | None, other: Crs | None) -> bool:
     return crs == other
 
 
+def _shown_crs(crs: Crs | None) -> str:
+    """A reference system by its code, else by the name in its text: two without a code may be two."""
+    if crs is None or crs.code:
+        return str(crs or "none")
+    name = re.search(r'"([^"]+)"', crs.wkt)
+    return f"{crs} ({ogr.printable(name[1][:_NAME_SHOWN])})" if name else str(crs)
+
+
 def _of_one_crs(
     layers: list[_SourceLayer], report: Report, wanted: Crs | None = None
 ) -> tuple[Crs | None, list[_SourceLayer]]:
@@ -390,7 +421,7 @@ def _of_one_crs(
         if not taken and wanted is None:
             crs = its_crs
         if not _is_same(its_crs, crs):
-            detail = f"{its_crs or 'none'} in place of {crs or 'none'}: the layer is left out"
+            detail = f"{_shown_crs(its_crs)} in place of {_shown_crs(crs)}: the layer is left out"
             report.problem(found.name, None, "another reference system", detail)
             continue
         taken.append(found)
@@ -495,6 +526,8 @@ def _bring_in(asked: argparse.Namespace, grid: Grid | None) -> int:
     for path in (asked.report, asked.faulty):
         if path and os.path.lexists(path) and not asked.overwrite:
             raise ogr.ExchangeError(f"{path} is there already: --overwrite replaces it")
+        if path and os.path.isfile(path):
+            check_replaced(path)
     wishes = Wishes(
         asked.source,
         asked.file,
@@ -519,7 +552,7 @@ def _bring_in(asked: argparse.Namespace, grid: Grid | None) -> int:
         if asked.faulty:
             report.write_features(asked.faulty, crs, asked.overwrite, _mode(asked.file))
     except (ogr.ExchangeError, OSError, KeyboardInterrupt) as error:
-        what = "interrupted" if isinstance(error, KeyboardInterrupt) else error
+        what = "interrupted" if isinstance(error, KeyboardInterrupt) else reason_of(error)
         done = "all is in the journal" if asked.add else "the store's file is written"
         print(f"sfstore-import: {fault or done}, but: {what}", file=sys.stderr)
         return 3 if fault else 1

@@ -7,6 +7,7 @@ import sys
 import traceback
 from collections.abc import Callable
 
+from sfstore.commandline import reason_of
 from sfstore.exchange.ogr import ExchangeError
 from sfstore.journal import JournalError
 from sfstore.sidecar import SidecarError
@@ -32,7 +33,7 @@ def ended(name: str, work: Callable[[], int], target: str = "") -> int:
     try:
         return work()
     except (ExchangeError, JournalError, ProgramEnded, SidecarError, OSError) as error:
-        print(f"{name}: {error}", file=sys.stderr)
+        print(f"{name}: {reason_of(error)}", file=sys.stderr)
         return _NOTHING
     except KeyboardInterrupt:
         what = "nothing was written" if _stamp(target) == before else f"{target} is written"

@@ -159,6 +159,7 @@ class _Export:
         self.connection = connection
         self._asked_schema = schema
         self._crs = found.crs
+        self._additions = found.additions
         self.places = Grid(*found.grid).places
         self._overwrite = overwrite
 
@@ -329,6 +330,7 @@ class _Export:
         lost = [key for key, *_ in self._rows_of(table, origin.identifier_column, [], origin.left_out)]
         if lost:
             raise _left_out(part, f"features that its import has left out: {_several(lost)}")
+        self._check_additions(part, table)
         columns = [_Column(number, part.columns[number], sort) for number, sort in part.sorts.items()]
         columns = [column for column in columns if column.name in table.columns]
         known = dict(_keyed(part, origin.identifier_column))
@@ -338,6 +340,21 @@ class _Export:
             for column, text in zip(columns, texts):
                 if values is not None and text is not None and values.get(column.number) is None:
                     raise _left_out(part, f"a value of {ogr.printable(column.name)} that its import has left out, of {key}")
+
+    def _check_additions(self, part: Part, table: _Table) -> None:
+        """`ogr.ExchangeError` where a table has features that an addition of it has left out, as a whole or values of them.
+
+        What it has taken has other keys in the store.
+        """
+        wanted = {
+            key
+            for each in self._additions
+            if (each.name, each.source, each.source_name) == (part.layer.name, "", part.name)
+            for key in (*each.left_out, *each.without)
+        }
+        lost = [key for key, *_ in self._rows_of(table, part.origin.identifier_column, [], sorted(wanted))]
+        if lost:
+            raise _left_out(part, f"features of which an addition has left out all or some values: {_several(lost)}")
 
     def _check_flat(self, part: Part, table: _Table) -> None:
         """`ogr.ExchangeError` where geometries of a table have Z or M."""

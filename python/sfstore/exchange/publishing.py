@@ -31,7 +31,7 @@ from sfstore.exchange.sources import check_unchanged, mode_for
 from sfstore.results import ProgramEnded, Rule
 from sfstore.sidecar import Sidecar
 from sfstore.store import Store
-from sfstore.storefile import FileLayer
+from sfstore.storefile import FileLayer, is_store
 from sfstore.storefile import write as write_store
 
 __all__ = ["check_target", "publish"]
@@ -43,6 +43,8 @@ def check_target(target: str, overwrite: bool) -> None:
         raise ExchangeError(f"{target} is there already: --overwrite replaces it")
     if os.path.exists(target) and not os.path.isfile(target):
         raise ExchangeError(f"{target} is no file")
+    if os.path.exists(target) and not is_store(target):
+        raise ExchangeError(f"{target} is no store, and --overwrite replaces no other file by one: take it away, or name another file")
     edits = journal.edits_left(os.path.realpath(target))
     if edits:
         raise ExchangeError(

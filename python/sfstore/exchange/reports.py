@@ -9,11 +9,14 @@ import sys
 from collections import Counter
 from typing import Any, NamedTuple
 
+from sfstore import files
 from sfstore.exchange import geojson, ogr
+from sfstore.exchange.asking import tables_of
 from sfstore.exchange.placing import Place, placed
+from sfstore.exchange.views import check_end
 from sfstore.sidecar import Crs
 
-__all__ = ["FEATURE_FORMATS", "Problem", "Report"]
+__all__ = ["FEATURE_FORMATS", "Problem", "Report", "check_replaced"]
 
 # How many identifiers the summary names for each reason.
 _SHOWN = 8
@@ -32,6 +35,9 @@ _NAMES = {
 # The layer of faulty features, and its columns.
 _LAYER = "faulty"
 _COLUMNS = ("layer", "identifier", "reason", "detail")
+# What stands near the begin of a GeoJSON of them, and how much of a file is looked at.
+_OWN_NAME = f'"name": "{_LAYER}"'.encode()
+_LOOKED_AT = 4096
 
 FEATURE_FORMATS = {".geojson": "GeoJSON", ".gpkg": "GPKG"}
 """The formats of faulty features, by the endings of their files."""
@@ -239,6 +245,29 @@ def _coordinates(geometry: Any) -> list[Any]:
         return []
     size = 3 if geometry.Is3D() else 2
     return [geometry.GetPoint(at)[:size] for at in range(geometry.GetPointCount())]
+
+
+def check_replaced(path: str, by: str = "a report") -> None:
+    """`ogr.ExchangeError` where a report would take the place of a map, a store or another file that is no text.
+
+    Features that an import has written as a report give way to others. ``by`` is what else takes the place, in words.
+    """
+    with open(path, "rb", opener=files.opened) as file:
+        begin = file.read(_LOOKED_AT)
+    is_json = begin.lstrip()[:1] in (b"{", b"[")
+    if (b"\0" in begin and not _has_faulty_alone(path)) or (is_json and _OWN_NAME not in begin):
+        raise ogr.ExchangeError(f"{path} is a map or no text, and --overwrite replaces none by {by}: take it away, or name another file")
+
+
+def _has_faulty_alone(path: str) -> bool:
+    """Whether a file is a GeoPackage with features that did not fit, and nothing else."""
+    module, _, _ = ogr.gdal()
+    try:
+        check_end(path)
+        data = module.OpenEx(path, module.OF_VECTOR | module.OF_RASTER, allowed_drivers=["GPKG"])
+        return tables_of(data) == [_LAYER]
+    except (RuntimeError, ogr.ExchangeError):
+        return False
 
 
 def _place(path: str, overwrite: bool, mode: int) -> Place:

@@ -8,6 +8,7 @@ from collections.abc import Callable, Sequence
 from sfstore.exchange.formats import RULES_MAX
 from sfstore.exchange.ogr import ExchangeError, printable
 from sfstore.exchange.placing import Place, check_free, placed
+from sfstore.exchange.reports import check_replaced
 from sfstore.exchange.ruling import rule_said
 from sfstore.results import Rule
 
@@ -42,6 +43,8 @@ def _rule(path: str, number: int, line: bytes) -> Rule:
 def check(path: str, overwrite: bool) -> None:
     """`ExchangeError` where rules can't be written to a file."""
     check_free(_place(path, overwrite))
+    if os.path.isfile(path):
+        check_replaced(path, "rules")
 
 
 def write(path: str, rules: Sequence[Rule], overwrite: bool, mode: int, say: Callable[[str], object]) -> None:

@@ -10,7 +10,7 @@ import time
 from collections.abc import Callable
 from pathlib import Path
 
-from sfstore.commandline import add_version
+from sfstore.commandline import add_version, counted, reason_of
 from sfstore.journal import JournalError
 from sfstore.replica import owning
 from sfstore.replica.demo import demonstrate
@@ -45,7 +45,7 @@ def main(words: list[str] | None = None) -> int:
     except (ModuleNotFoundError, LinkLost, LogRefused, LogUnreachable, JournalError) as error:
         return _failed(str(error), 3)
     except (owning.LoginExists, AnswerGone, ProgramEnded, OSError, RuntimeError, ValueError) as error:
-        return _failed(str(error), 3)
+        return _failed(reason_of(error), 3)
     except KeyboardInterrupt:
         return 130
 
@@ -202,8 +202,13 @@ def _cut(asked: argparse.Namespace) -> int:
 
 
 def _drop(asked: argparse.Namespace) -> int:
+    # It is asked before: what is dropped is said, whatever becomes of the connection then.
+    stay = owning.state(asked.log).at - asked.place
     dropped = owning.drop_before(asked.log, asked.place, asked.alike, asked.older, 60.0)
-    print(f"{dropped} entries are dropped.")
+    # Places are numbered without a gap.
+    first = asked.place - dropped + 1
+    places = f"places {first:,} to {asked.place:,}" if dropped else f"those up to place {asked.place:,} were dropped before"
+    print(f"{counted(dropped, 'entry is', 'entries are')} dropped: {places}. {counted(stay, 'entry stays', 'entries stay')} behind the cut.")
     return 0
 
 

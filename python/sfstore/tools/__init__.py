@@ -5,6 +5,6 @@ So no tool can break a map: where the program refuses the group, nothing has cha
 
 from sfstore.tools.merging import merge
 from sfstore.tools.nodes import move_node
-from sfstore.tools.splitting import split
+from sfstore.tools.splitting import NoSplit, split
 
-__all__ = ["merge", "move_node", "split"]
+__all__ = ["NoSplit", "merge", "move_node", "split"]

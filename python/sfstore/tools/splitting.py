@@ -8,16 +8,31 @@ from collections.abc import Iterable, Iterator, Sequence
 from dataclasses import dataclass, field
 from fractions import Fraction
 from functools import cached_property, partial
+from itertools import combinations
 
 from sfstore.editor import Editor
 from sfstore.geometry import Flat, Shape, read_wkt, write_wkt
 from sfstore.tools.pins import pairs, pins_of, points_of, shape_of
 from sfstore.tools.rings import Edge, Point, edges_of, polygons_of, split_at, written
 
-__all__ = ["split"]
+__all__ = ["NoSplit", "split"]
 
 Place = tuple[Fraction, Fraction]
 """A point of the plane, exactly."""
+
+
+class NoSplit(ValueError):
+    """A line parts no area. The text says why and where, in steps."""
+
+    def __init__(self, why: str, at: Place) -> None:
+        super().__init__(why, at)
+        self.why = why
+        """Why, without the place."""
+        self.at = at
+        """The place, in steps."""
+
+    def __str__(self) -> str:
+        return f"{self.why} at ({self.at[0]} {self.at[1]})"
 
 
 def split(store: Editor, layer: str, feature_id: int, line: str, *, beside: Sequence[str] = ()) -> list[int]:
@@ -27,8 +42,8 @@ def split(store: Editor, layer: str, feature_id: int, line: str, *, beside: Sequ
     once. It goes into each feature whose border passes there, of the layer and of the layers ``beside``, and the corners of
     all of these on an edge that it bends do too: so the parts fit their neighbours as before.
 
-    `ValueError` where the feature is no POLYGON, nor a MULTIPOLYGON of one. The same where the line does not part it, crosses
-    itself in it, or parts it too narrowly for the grid. `Refused` where the program refuses the line or the group, and
+    `ValueError` where the feature is no POLYGON, nor a MULTIPOLYGON of one, or the line does not part it. `NoSplit` with the
+    place where the line crosses itself in it, or parts it too narrowly for the grid. `Refused` where the program refuses the line or the group, and
     nothing has changed.
 
     >>> from sfstore import Store
@@ -48,14 +63,18 @@ def split(store: Editor, layer: str, feature_id: int, line: str, *, beside: Sequ
     if cutter.code != 2:
         raise ValueError("the line is no LINESTRING")
     border = list(edges_of(shape))
-    cut = _cut(border, points_of(cutter.members[0][0]))
+    points = points_of(cutter.members[0][0])
+    cut = _cut(border, points)
     layers = list(dict.fromkeys((layer, *beside)))
     neighbours = dict(_neighbours(store, layers, shape)) if cut.corners else {}
     neighbours.pop((layer, feature_id), None)
     cut.pins = pins_of(store, layers, _bent([shape, *neighbours.values()], cut))
     edges = list(cut.edges(border))
-    if len(set(edges)) < len(edges) or not _is_planar({(min(edge), max(edge)) for edge in edges}, cut.moved):
-        raise ValueError(f"the line crosses itself in {layer} {feature_id}, or parts it too narrowly for the grid")
+    narrow = _twice(edges) or _meeting({(min(edge), max(edge)) for edge in edges}, cut.moved)
+    if narrow is not None:
+        at = _crossing(points, border)
+        why = f"the line parts {layer} {feature_id} too narrowly for the grid"
+        raise NoSplit(why if at is None else f"the line crosses itself in {layer} {feature_id}", at or narrow)
     parts = sorted(polygons_of(edges), key=lambda part: -_size(part.shell))
     if len(parts) < 2:
         raise ValueError(f"the line does not part {layer} {feature_id}")
@@ -200,18 +219,41 @@ def _with_corners(line: Flat, cut: _Cut) -> Flat:
     return [number for point in found for number in point] if found != points else line
 
 
-def _is_planar(edges: Iterable[Edge], moved: Iterable[Edge]) -> bool:
-    """Whether each of some moved edges meets all edges, of which it is one, at common ends alone."""
-    every = [(edge, min(edge[0][1], edge[1][1]), max(edge[0][1], edge[1][1])) for edge in edges]
-    for one in moved:
+def _twice(edges: Iterable[Edge]) -> Place | None:
+    """The begin of an edge that is there twice; none where there is none."""
+    seen: set[Edge] = set()
+    for edge in edges:
+        if edge in seen:
+            return _exact(edge[0])
+        seen.add(edge)
+    return None
+
+
+def _crossing(line: Sequence[Point], border: Sequence[Edge]) -> Place | None:
+    """A place in an area where a line meets itself, but for common corners of it; none where there is none."""
+    pieces = [edge for edge in zip(line, line[1:]) if edge[0] != edge[1]]
+    for one, other in combinations(pieces, 2):
+        common = set(map(_exact, one)) & set(map(_exact, other))
+        for place in _shared(one, other):
+            if place not in common and _is_inside(place, border):
+                return place
+    return None
+
+
+def _meeting(edges: Iterable[Edge], moved: Iterable[Edge]) -> Place | None:
+    """A place where one of some moved edges meets another edge, of which it is one, but for common ends; none where there is none."""
+    every = [(edge, min(edge[0][1], edge[1][1]), max(edge[0][1], edge[1][1])) for edge in sorted(edges)]
+    for one in sorted(moved):
         (left, _), (right, _) = one
         bottom, top = sorted((one[0][1], one[1][1]))
         for other, low, high in every:
             if other[0][0] > right or other[1][0] < left or low > top or high < bottom or other == one:
                 continue
-            if any(at not in set(map(_exact, one)) & set(map(_exact, other)) for at in _shared(one, other)):
-                return False
-    return True
+            ends = set(map(_exact, one)) & set(map(_exact, other))
+            place = next((at for at in _shared(one, other) if at not in ends), None)
+            if place is not None:
+                return place
+    return None
 
 
 def _exact(point: Point) -> Place:

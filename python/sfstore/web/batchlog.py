@@ -72,7 +72,7 @@ class BatchLog:
     def begin(self, at: int, editor: int, lines: Sequence[str]) -> None:
         """Records a batch, or the steps that undo or redo one, that is sent next. `OSError` where that can't be done."""
         self.give_up()
-        entry = Entry(self._head(), at, editor, [line.removesuffix("\r") for line in lines])
+        entry = Entry(self.head(), at, editor, [line.removesuffix("\r") for line in lines])
         file = files.opened_here(self._path, os.O_WRONLY | os.O_APPEND | os.O_CREAT)
         try:
             self._before = os.fstat(file).st_size
@@ -104,7 +104,7 @@ class BatchLog:
         """Removes the entries of all batches that the journal has not whole, whatever was taken back of them."""
         self._before = None
         with contextlib.suppress(FileNotFoundError):
-            lines, head = self._lines(), self._head()
+            lines, head = self._lines(), self.head()
             kept = [line for line in lines if _is_kept(_entry(line), head, records)]
             if kept == lines[: len(kept)]:
                 self._cut(sum(map(len, kept)))
@@ -135,7 +135,7 @@ class BatchLog:
             lines = self._lines()
         except FileNotFoundError:
             return []
-        head = self._head()
+        head = self.head()
         return [entry for entry in map(_entry, lines) if entry is not None and entry.head == head]
 
     def _lines(self) -> list[bytes]:
@@ -154,7 +154,8 @@ class BatchLog:
         finally:
             os.close(file)
 
-    def _head(self) -> str:
+    def head(self) -> str:
+        """The first line of the journal, empty where there is none."""
         try:
             with open(journal.path_of(self._store), "rb", opener=files.opened_here) as file:
                 return file.readline().decode("ascii", "replace")

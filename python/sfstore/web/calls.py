@@ -2,6 +2,7 @@
 
 from __future__ import annotations
 
+import contextlib
 import os
 import time
 from base64 import b64encode
@@ -10,6 +11,7 @@ from typing import Any, TypeVar
 
 from sfstore import sidecar, spelling
 from sfstore.broken import Broken, broken_by
+from sfstore.commandline import reason_of
 from sfstore.commands import Command, help_text, near_words
 from sfstore.faults import fault_at, fault_of
 from sfstore.geometry import Shape, read_wkb, write_wkt
@@ -35,7 +37,7 @@ from sfstore.web.raster import png
 from sfstore.web.rows import identifiers_of, ids_of, rows_of
 from sfstore.web.scales import metres_of
 from sfstore.web.steps import Step
-from sfstore.web.styles import StyleError, Styles, renamed_by, style_of
+from sfstore.web.styles import StyleError, Styles, style_of
 from sfstore.web.tables import PAGE_MAX, Reading, Tables, Wanted, conditions_of, labels_of
 from sfstore.web.windows import ELEMENTS_MAX, Box, extent_of, shapes_of, window_of
 
@@ -90,9 +92,10 @@ class Calls:
         """The last is why coordinates are steps, where the store has a side-car; else empty."""
         self._keeper = keeper
         self._program = program
-        self._editors = Editors(path)
+        self._editors = Editors(path, keeper.editors)
         self.logins = Logins(self._editors)
         self.styles = Styles(path)
+        keeper.ask_layer_changes(self.styles.catch_up)
         self._history = History()
         self._looks = Mirror(keeper, program, seconds, self._history)
         self._pictures = Pictures()
@@ -358,6 +361,7 @@ class Calls:
 
     def _save(self, editor: int) -> Body:
         self._keeper.save()
+        self._keeper.ask_layer_changes(self.styles.catch_up)
         self._history.take(self._editors.name_of(editor), "save", "save")
         self.events.tell({"saved": self._editors.name_of(editor), "undo": None, "redo": None})
         return {"text": f"{self._title} is saved. The history begins anew."}
@@ -406,8 +410,9 @@ class Calls:
         elif len({edit.line for edit in edits}) > 1:
             line, did = f"together {len(edits)}", edits[0].step.line if last.stays else "refused, and taken back"
         changes = [change for edit in edits if edit.stays for change in changed_by(edit.line, edit.step)]
-        for edit in edits:
-            if self.styles.rename(renamed_by(edit)):
+        # The edit is carried out, whether the head of the journal can be read now or not.
+        with contextlib.suppress(OSError):
+            if self._keeper.with_layer_changes(self.styles.catch_up):
                 self.events.tell({"styled": None})
         told: Body = {
             "version": last.version,
@@ -549,7 +554,7 @@ def _grid_of(path: str) -> tuple[Body | None, MapUnits | None, str]:
         found = sidecar.read(path)
         units = MapUnits(*found.grid)
     except (sidecar.SidecarError, OSError, ValueError) as error:
-        return None, None, f"Coordinates are steps of the grid: {error}"
+        return None, None, f"Coordinates are steps of the grid: {reason_of(error)}"
     x, y, step = found.grid
     crs = found.crs
     return {"x": x, "y": y, "step": step, "crs": str(crs) if crs else None, "metres": metres_of(crs.wkt) if crs else None}, units, ""

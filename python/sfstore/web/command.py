@@ -11,8 +11,10 @@ import sys
 import threading
 import time
 from collections.abc import Callable, Iterator
+from importlib.util import find_spec
+from typing import TYPE_CHECKING
 
-from sfstore.commandline import add_version, counted, recovered_words
+from sfstore.commandline import add_version, counted, reason_of, recovered_words
 from sfstore.journal import JournalError, path_of
 from sfstore.store import ProgramEnded
 from sfstore.storefile import fault_words
@@ -22,8 +24,10 @@ from sfstore.web.editors import EditorsError
 from sfstore.web.keeper import Keeper
 from sfstore.web.logins import LINK_SECONDS
 from sfstore.web.opening import Opening, has_screen
-from sfstore.web.server import Server
 from sfstore.web.socketed import Door, SocketTaken
+
+if TYPE_CHECKING:
+    from sfstore.web.server import Server
 
 __all__ = ["main"]
 
@@ -48,17 +52,19 @@ def main(words: list[str] | None = None) -> int:
         background = background_of(asked.background, asked.credit) if asked.background else None
     except ValueError as error:
         parser.error(str(error))
+    if not _has_h11():
+        return _failed("the page needs h11 for Python (Debian's package python3-h11)")
     try:
         keeper = Keeper(asked.file, asked.program, _EDIT_TIMES * asked.seconds)
     except ProgramEnded as ended:
         reason = fault_words(asked.file, ended.last_line) if ended.status == 3 else str(ended)
         return _failed(f"{asked.file} does not load: {reason}")
     except (JournalError, OSError) as error:
-        return _failed(str(error))
+        return _failed(reason_of(error))
     try:
         return _serve(asked, keeper, background)
     except (EditorsError, OSError) as error:
-        return _failed(str(error))
+        return _failed(reason_of(error))
     finally:
         unsaved = keeper.close()
         if unsaved:
@@ -113,8 +119,19 @@ def _failed(reason: str) -> int:
     return 3
 
 
+def _has_h11() -> bool:
+    try:
+        return find_spec("h11") is not None
+    except ValueError:
+        # It was tried before, in vain.
+        return False
+
+
 def _serve(asked: argparse.Namespace, keeper: Keeper, background: Background | None) -> int:
     """Serves the page until Ctrl-C, or until the process is told to end."""
+    # Behind the look whether h11 is there.
+    from sfstore.web.server import Server
+
     calls = Calls(asked.file, keeper, asked.program, asked.seconds, background)
     try:
         if calls.styles.fault:
@@ -139,7 +156,7 @@ def _socket(server: Server, asked: argparse.Namespace) -> Iterator[None]:
         try:
             door = stack.enter_context(Door(server.calls, asked.file, lambda name: _address(server, name)))
         except (OSError, SocketTaken) as error:
-            print(f"sfstore-web: no program can connect: {error}", file=sys.stderr)
+            print(f"sfstore-web: no program can connect: {reason_of(error)}", file=sys.stderr)
         else:
             count = lambda: door.count
             threading.Thread(target=door.serve_forever, daemon=True).start()
@@ -187,7 +204,7 @@ def _open(opening: Opening, address: str) -> None:
     try:
         opening.open(address)
     except OSError as error:
-        print(f"sfstore-web: no browser is opened: {error}", file=sys.stderr)
+        print(f"sfstore-web: no browser is opened: {reason_of(error)}", file=sys.stderr)
 
 
 def _obey(server: Server) -> None:

@@ -5,6 +5,7 @@ from __future__ import annotations
 import json
 import os
 import threading
+from collections.abc import Callable, Collection
 
 from sfstore import files
 
@@ -25,11 +26,16 @@ class Editors:
     So whoever logs in again under a name has the same number, and can undo what is still in the
     journal. A name is kept from its first edit on: one that was mistyped, and has edited nothing,
     is forgotten at the end. In the list of the file a number without a name has an empty text.
+
+    A number whose steps can be undone or redone is given to nobody new, whether it has a name or not: the file may have
+    been taken away, and lines of the program alone may name any number.
     """
 
-    def __init__(self, store: str) -> None:
+    def __init__(self, store: str, at_work: Callable[[], Collection[int]] = tuple) -> None:
+        """``at_work`` gives the numbers of those whose steps can be undone or redone."""
         self._store = os.path.realpath(store)
         self._path = self._store + ".editors"
+        self._at_work = at_work
         self._lock = threading.Lock()
         self._kept = self._read()
         self._names = list(self._kept)
@@ -40,8 +46,9 @@ class Editors:
                 names = json.load(file)
         except FileNotFoundError:
             return []
-        except (RecursionError, ValueError) as error:
-            raise EditorsError(f"{self._path} can't be read: {error}") from None
+        except (OSError, RecursionError, ValueError) as error:
+            why = error.strerror if isinstance(error, OSError) else error
+            raise EditorsError(f"{self._path} can't be read: {why}") from None
         if not isinstance(names, list) or not all(isinstance(name, str) for name in names):
             raise EditorsError(f"{self._path} has no list of names")
         return names[:_NUMBER_MAX]
@@ -54,12 +61,15 @@ class Editors:
             return self._names.index(name) + 1
 
     def _take(self, name: str) -> None:
-        if _FREE in self._names:
-            self._names[self._names.index(_FREE)] = name
-        elif len(self._names) < _NUMBER_MAX:
-            self._names.append(name)
-        else:
-            raise EditorsError(f"There are {_NUMBER_MAX} editors already.")
+        """Gives a new name the least number that is nobody's."""
+        known = {number for number, kept in enumerate(self._names, 1) if kept}
+        taken = known.union(self._at_work())
+        number = next((each for each in range(1, _NUMBER_MAX + 1) if each not in taken), None)
+        if number is None:
+            helps = "" if len(known) == _NUMBER_MAX else " A save frees the numbers that have no name."
+            raise EditorsError(f"There are {_NUMBER_MAX} editors already.{helps}")
+        self._names += [_FREE] * (number - len(self._names))
+        self._names[number - 1] = name
 
     def is_known(self, name: str) -> bool:
         """Whether somebody has a name already."""

@@ -2,17 +2,15 @@
 
 from __future__ import annotations
 
-import io
 import socket
 import time
-from typing import Any
 
 __all__ = ["Incoming", "LineTooLong", "Lines"]
 
 _READ_BYTES = 1 << 16
 
 
-class Incoming(io.RawIOBase):
+class Incoming:
     """What a connection sends, until a moment: however slowly it comes, it takes no longer."""
 
     def __init__(self, connection: socket.socket) -> None:
@@ -23,15 +21,13 @@ class Incoming(io.RawIOBase):
         """Gives what is read from now on so much time."""
         self._until = time.monotonic() + seconds
 
-    def readable(self) -> bool:
-        return True
-
-    def readinto(self, buffer: Any) -> int:
+    def some(self) -> bytes:
+        """What comes next, as soon as there is some; nothing where no more comes. `socket.timeout` where that takes too long."""
         left = self._until - time.monotonic()
         if left <= 0:
             raise socket.timeout("the request takes too long")
         self._connection.settimeout(left)
-        return self._connection.recv_into(buffer)
+        return self._connection.recv(_READ_BYTES)
 
 
 class LineTooLong(Exception):

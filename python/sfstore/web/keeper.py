@@ -10,13 +10,14 @@ from collections.abc import Callable, Sequence
 from concurrent.futures import ThreadPoolExecutor
 from typing import NamedTuple, TypeVar, cast
 
+from sfstore.commandline import reason_of
 from sfstore.journal import JournalError
 from sfstore.program import is_edit
 from sfstore.store import Answer, Editor, ProgramEnded, Refused, Store
 from sfstore.web.batches import Batch, Done, LineRefused, carry_out, carry_out_group, is_group, take_back
 from sfstore.web.batchlog import BatchLog, new_mark
 from sfstore.web.changes import Change, Changes, Target, seen_of
-from sfstore.web.steps import Step, Steps
+from sfstore.web.steps import LayerChange, Step, Steps
 
 __all__ = ["Asked", "ChangedMeanwhile", "Edit", "Keeper", "Snapshot", "Unavailable"]
 
@@ -160,7 +161,7 @@ class Keeper:
             except (JournalError, OSError) as error:
                 # A save has taken its place.
                 if self.is_at(begun.file):
-                    raise Unavailable(f"{error}. Every edit that was answered is in the journal.") from error
+                    raise Unavailable(f"{reason_of(error)}. Every edit that was answered is in the journal.") from error
 
     def is_at(self, file: int) -> bool:
         """Whether the file is the one of a snapshot."""
@@ -173,6 +174,18 @@ class Keeper:
     def done(self) -> list[Step]:
         """What was done since the last save and is not undone, in its order."""
         return self._do(lambda store: self._steps.done)
+
+    def ask_layer_changes(self, take: Callable[[str, Sequence[LayerChange]], _T]) -> _T:
+        """What somebody makes of all that the journal has made of layers, whose head comes first."""
+        return self._do(lambda store: self.with_layer_changes(take))
+
+    def with_layer_changes(self, take: Callable[[str, Sequence[LayerChange]], _T]) -> _T:
+        """As `ask_layer_changes`, for those whom the keeper calls: in its thread."""
+        return take(self._log.head(), self._steps.layer_changes)
+
+    def editors(self) -> set[int]:
+        """The numbers of those whose steps can be undone or redone. It may be asked by any thread."""
+        return self._steps.editors
 
     def close(self) -> int:
         """Ends the program, and gives the number of edits that are in the journal alone."""
@@ -193,7 +206,7 @@ class Keeper:
         except (JournalError, ProgramEnded, RuntimeError, OSError) as error:
             if self._store is not None and not self._is_open(self._store):
                 self._drop()
-            raise Unavailable(f"{error}. Every edit that was answered is in the journal.") from error
+            raise Unavailable(f"{reason_of(error)}. Every edit that was answered is in the journal.") from error
 
     def _limited(self, store: Store, lines: int, job: Callable[[], _T]) -> _T:
         """Does a job of so many lines. Where it takes too long, its program is ended, and the store opened anew next time.

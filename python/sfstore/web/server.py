@@ -9,17 +9,19 @@ header, which a browser sends for no other page. Paths name only what stands in 
 from __future__ import annotations
 
 import contextlib
-import io
 import json
 import socket
 import sys
 from collections.abc import Callable
+from email.utils import formatdate
 from functools import partial
 from http import HTTPStatus
-from http.server import BaseHTTPRequestHandler, ThreadingHTTPServer
 from importlib.resources import files
+from socketserver import BaseRequestHandler, ThreadingTCPServer
 from typing import Any
 from urllib.parse import urlencode
+
+import h11
 
 from sfstore.web.background import Background
 from sfstore.web.calls import Calls
@@ -31,6 +33,7 @@ __all__ = ["Server"]
 
 # The longest line has 4,194,304 bytes, which JSON may write as two of its own for each.
 _BODY_BYTES_MAX = 1 << 23
+_HEAD_BYTES_MAX = 1 << 16
 # How long a request may take from its first byte to the end of its head, and then its body.
 _HEAD_SECONDS = 10.0
 _BODY_SECONDS = 10.0
@@ -65,6 +68,8 @@ def _guards(background: Background | None) -> dict[str, str]:
     return {**_GUARDS, "Content-Security-Policy": policy}
 
 
+_NO_HEADERS: list[tuple[bytes, bytes]] = []
+_TOO_LARGE = f"a call has {_BODY_BYTES_MAX} bytes at most"
 _NO_KEY = "open a link of sfstore-web; who runs it can type `link` for one"
 
 
@@ -78,10 +83,11 @@ def _static_files() -> dict[str, tuple[str, bytes]]:
     return found
 
 
-class Server(ThreadingHTTPServer):
+class Server(ThreadingTCPServer):
     """A server of one store, for the pages of those who have logged in."""
 
     daemon_threads = True
+    allow_reuse_address = True
     request_queue_size = 128
 
     def __init__(self, calls: Calls, port: int, background: Background | None = None) -> None:
@@ -90,6 +96,7 @@ class Server(ThreadingHTTPServer):
         self.guards = _guards(background)
         self.connections = Connections()
         super().__init__(("127.0.0.1", port), _Handler)
+        self.server_port: int = self.server_address[1]
         self.hosts = [f"{name}:{self.server_port}" for name in ("127.0.0.1", "localhost")]
 
     def address(self, link: str, name: str = "") -> str:
@@ -124,118 +131,142 @@ class _Refusal(Exception):
         self.status = status
 
 
-class _Handler(BaseHTTPRequestHandler):
+class _Handler(BaseRequestHandler):
+    """A connection, with the requests that come on it one behind the other. h11 reads and writes the heads."""
+
     server: Server
-    protocol_version = "HTTP/1.1"
-    # An answer is not held back until the one before it is acknowledged.
-    disable_nagle_algorithm = True
+    request: socket.socket
 
     def setup(self) -> None:
-        super().setup()
-        self.rfile.close()
-        self._incoming = Incoming(self.connection)
-        self.rfile = self._requests = io.BufferedReader(self._incoming)
+        # An answer is not held back until the one before it is acknowledged.
+        self.request.setsockopt(socket.IPPROTO_TCP, socket.TCP_NODELAY, True)
+        self._incoming = Incoming(self.request)
+        self._protocol = h11.Connection(h11.SERVER, _HEAD_BYTES_MAX)
 
-    def version_string(self) -> str:
-        return "sfstore-web"
+    def handle(self) -> None:
+        while self._waited() and self._answered():
+            self._protocol.start_next_cycle()
 
-    def log_message(self, *_: object) -> None:
-        """Nothing is logged."""
-
-    def send_error(self, code: int, message: str | None = None, explain: str | None = None) -> None:
-        """What the server's own reading of a request finds wrong is answered as all else."""
-        self.close_connection = True
-        self._reply_json(code, {"error": message or "the request can't be read"})
-
-    def handle_one_request(self) -> None:
-        """Waits for a request, and answers it."""
-        is_known = self.server.connections.is_known(self.connection)
+    def _waited(self) -> bool:
+        """Waits for a request. Whether one has begun to come."""
+        if self._protocol.trailing_data[0]:
+            return True
+        is_known = self.server.connections.is_known(self.request)
         self._incoming.allow(_IDLE_SECONDS if is_known else _HEAD_SECONDS)
-        self.close_connection = True
         try:
-            if not self._requests.peek(1):
-                return
+            data = self._incoming.some()
         except socket.timeout:
-            return
+            return False
+        self._protocol.receive_data(data)
+        return bool(data)
+
+    def _answered(self) -> bool:
+        """Answers a request. Whether another one may come behind it."""
+        self._is_last = self._is_head = False
         self._incoming.allow(_HEAD_SECONDS)
-        super().handle_one_request()
-
-    def do_GET(self) -> None:
-        self._guarded(self._get)
-
-    def do_POST(self) -> None:
-        self._guarded(self._post)
-
-    def _guarded(self, answer: Callable[[], None]) -> None:
-        """Answers a request that may be answered."""
         try:
-            self._check_host()
-            answer()
-        except _Refusal as refusal:
+            event = self._next()
+            if isinstance(event, h11.Request):
+                head = _Head(event)
+                self._is_head = head.method == "HEAD"
+                self._answer(head)
+        except (_Refusal, h11.RemoteProtocolError) as error:
             # What is left of the request is not read.
-            self.close_connection = True
-            self._reply_json(refusal.status, {"error": str(refusal)})
+            self._is_last = True
+            if self._protocol.our_state in (h11.IDLE, h11.SEND_RESPONSE):
+                self._reply_json(*_told(error))
+        return {self._protocol.our_state, self._protocol.their_state} == {h11.DONE}
 
-    def _get(self) -> None:
-        if self.path == "/events":
-            self._editor()
+    def _next(self) -> Any:
+        """What h11 makes of what comes next. `h11.RemoteProtocolError` where it is no part of a request."""
+        while (event := self._event()) is h11.NEED_DATA:
+            if self._protocol.they_are_waiting_for_100_continue:
+                self._write(self._sent(h11.InformationalResponse(status_code=100, headers=_NO_HEADERS)))
+            self._protocol.receive_data(self._incoming.some())
+        return event
+
+    def _event(self) -> Any:
+        try:
+            return self._protocol.next_event()
+        except ValueError:
+            # A length has more digits than Python takes for a number.
+            raise _Refusal(413, _TOO_LARGE) from None
+
+    def _answer(self, head: _Head) -> None:
+        """Answers a request that may be answered."""
+        if head.version not in ("1.0", "1.1"):
+            raise _Refusal(505, "the request is of a version of HTTP that is not known")
+        if head.method not in ("GET", "POST"):
+            raise _Refusal(501, "a request is a GET or a POST")
+        self._check_host(head)
+        if head.method == "POST":
+            self._post(head)
+        elif isinstance(self._next(), h11.EndOfMessage):
+            self._get(head)
+        else:
+            raise _Refusal(400, "a GET has no body")
+
+    def _get(self, head: _Head) -> None:
+        if head.path == "/events":
+            self._editor(head)
             self._send_events()
-        elif self.path in self.server.files:
-            kind, data = self.server.files[self.path]
+        elif head.path in self.server.files:
+            kind, data = self.server.files[head.path]
             self._reply(200, kind, data)
         else:
             raise _Refusal(404, "there is nothing of that name")
 
-    def _post(self) -> None:
-        if self.headers.get("Origin") is None:
+    def _post(self, head: _Head) -> None:
+        if not head.all("Origin"):
             raise _Refusal(403, "the request does not say which page it is from")
-        call = self._call()
-        self._reply_json(*outcome_of(call, self._body()))
+        call = self._call(head)
+        self._reply_json(*outcome_of(call, self._body(head)))
 
-    def _call(self) -> Callable[[dict[str, Any]], dict[str, Any]]:
+    def _call(self, head: _Head) -> Callable[[dict[str, Any]], dict[str, Any]]:
         """The call that is asked for. All but a login want a key."""
         calls = self.server.calls
-        if self.path == "/login":
+        if head.path == "/login":
             return calls.log_in
-        editor = self._editor()
-        call = calls.by_path.get(self.path)
+        editor = self._editor(head)
+        call = calls.by_path.get(head.path)
         if call is None:
             raise _Refusal(404, "there is nothing of that name")
         return partial(call, editor)
 
-    def _check_host(self) -> None:
+    def _check_host(self, head: _Head) -> None:
         """Refuses what was sent to another name, as by rebinding, or by another page."""
-        hosts: list[str] = self.headers.get_all("Host", [])
-        origins: list[str] = self.headers.get_all("Origin", [])
+        hosts, origins = head.all("Host"), head.all("Origin")
         if len(hosts) != 1 or hosts[0] not in self.server.hosts:
             raise _Refusal(403, "the request is for another host")
         if len(origins) > 1 or (origins and origins[0] != f"http://{hosts[0]}"):
             raise _Refusal(403, "the request is from another page")
 
-    def _editor(self) -> int:
+    def _editor(self, head: _Head) -> int:
         """The number of the editor whose key the request brings."""
-        kind, _, key = self.headers.get("Authorization", "").partition(" ")
+        kind, _, key = ", ".join(head.all("Authorization")).partition(" ")
         editor = self.server.calls.logins.editor_of(key) if kind == "Bearer" else None
         if editor is None:
             raise _Refusal(403, _NO_KEY)
-        if not self.server.connections.know(self.connection, editor):
+        if not self.server.connections.know(self.request, editor):
             raise _Refusal(503, "there are too many connections: close some pages")
         return editor
 
-    def _body(self) -> dict[str, Any]:
+    def _body(self, head: _Head) -> dict[str, Any]:
         """The JSON object that a request brings."""
-        if self.headers.get("Content-Type") != "application/json":
+        if head.all("Content-Type") != ["application/json"]:
             raise _Refusal(415, "a call is an application/json")
-        length, *others = self.headers.get_all("Content-Length", [""])
-        if others:
-            raise _Refusal(400, "a call has one length")
-        if "Transfer-Encoding" in self.headers or not (length.isascii() and length.isdigit()):
+        lengths = head.all("Content-Length")
+        if head.all("Transfer-Encoding") or not lengths:
             raise _Refusal(411, "a call has a length")
-        if len(length) > 9 or int(length) > _BODY_BYTES_MAX:
-            raise _Refusal(413, f"a call has {_BODY_BYTES_MAX} bytes at most")
+        # To h11 it is one number.
+        if len(lengths[0]) > 9 or int(lengths[0]) > _BODY_BYTES_MAX:
+            raise _Refusal(413, _TOO_LARGE)
         self._incoming.allow(_BODY_SECONDS)
+        data = bytearray()
+        while isinstance(part := self._next(), h11.Data):
+            data += part.data
         try:
-            body = json.loads(self.rfile.read(int(length)))
+            body = json.loads(data)
         except (ValueError, RecursionError):
             raise _Refusal(400, "the call is no JSON") from None
         if not isinstance(body, dict):
@@ -244,13 +275,14 @@ class _Handler(BaseHTTPRequestHandler):
 
     def _send_events(self) -> None:
         """Sends what happens, as it happens, until the page is gone."""
-        self.close_connection = True
+        self._is_last = True
         try:
-            self._write(self._head(200, "text/event-stream", {}))
+            self._write(self._sent(self._head(200, "text/event-stream", {})))
             with contextlib.closing(self.server.calls.events.told(_QUIET_SECONDS)) as events:
                 for text in events:
                     # A comment shows whether the page is still there.
-                    self._write(b": still here\n\n" if text is None else f"data: {text}\n\n".encode())
+                    data = b": still here\n\n" if text is None else f"data: {text}\n\n".encode()
+                    self._write(self._sent(h11.Data(data)))
         except OSError:
             pass
 
@@ -260,23 +292,48 @@ class _Handler(BaseHTTPRequestHandler):
 
     def _reply(self, status: int, kind: str, data: bytes) -> None:
         if self.server.connections.are_many():
-            self.close_connection = True
-        self._write(self._head(status, kind, {"Content-Length": str(len(data))}) + data)
+            self._is_last = True
+        head = self._sent(self._head(status, kind, {"Content-Length": str(len(data))}))
+        body = b"" if self._is_head else self._sent(h11.Data(data))
+        self._write(head + body + self._sent(h11.EndOfMessage()))
 
-    def _head(self, status: int, kind: str, headers: dict[str, str]) -> bytes:
+    def _head(self, status: int, kind: str, headers: dict[str, str]) -> h11.Response:
         """The head of an answer."""
         told = {
-            "Server": self.version_string(),
-            "Date": self.date_time_string(),
+            "Server": "sfstore-web",
+            "Date": formatdate(usegmt=True),
             **self.server.guards,
             "Content-Type": kind,
             **headers,
-            **({"Connection": "close"} if self.close_connection else {}),
+            **({"Connection": "close"} if self._is_last else {}),
         }
-        lines = [f"HTTP/1.1 {status} {HTTPStatus(status).phrase}"]
-        lines += [f"{name}: {value}" for name, value in told.items()]
-        return "\r\n".join([*lines, "", ""]).encode("latin-1")
+        return h11.Response(status_code=status, headers=list(told.items()), reason=HTTPStatus(status).phrase)
+
+    def _sent(self, event: h11.Event) -> bytes:
+        """The bytes of a part of an answer."""
+        return self._protocol.send(event) or b""
 
     def _write(self, data: bytes) -> None:
-        self.connection.settimeout(_TAKEN_SECONDS)
-        self.wfile.write(data)
+        self.request.settimeout(_TAKEN_SECONDS)
+        self.request.sendall(data)
+
+
+class _Head:
+    """The head of a request."""
+
+    def __init__(self, head: h11.Request) -> None:
+        self.method = head.method.decode("ascii")
+        self.path = head.target.decode("ascii")
+        self.version = head.http_version.decode("ascii")
+        self._headers = [(name.decode("ascii"), value.decode("latin-1")) for name, value in head.headers]
+
+    def all(self, name: str) -> list[str]:
+        """The values of all headers of a name, small and capital letters alike."""
+        return [value for known, value in self._headers if known == name.lower()]
+
+
+def _told(error: _Refusal | h11.RemoteProtocolError) -> tuple[int, dict[str, Any]]:
+    """A status, and why a request is not answered."""
+    if isinstance(error, _Refusal):
+        return error.status, {"error": str(error)}
+    return error.error_status_hint, {"error": f"the request can't be read: {error}"}

@@ -14,7 +14,7 @@ from typing import NamedTuple
 from sfstore.groups import lines_of
 from sfstore.web.changes import Target, targets_of, targets_of_members
 
-__all__ = ["Did", "Step", "Steps"]
+__all__ = ["Did", "LayerChange", "Step", "Steps"]
 
 _ADDRESS = re.compile(r"[ \t]*@([0-9]{1,3})[ \t]+")
 
@@ -51,6 +51,21 @@ class Step(NamedTuple):
         return self.members or (Did(self.line, self.targets),)
 
 
+class LayerChange(NamedTuple):
+    """What an edit, an undo or a redo has made of a layer."""
+
+    before: str
+    """Its name before; empty where it was not there."""
+    after: str
+    """Its name from then on; empty where it is gone."""
+    verb: str = ""
+    """``undo`` or ``redo``, by which a layer comes that was there before; empty where it is of an edit."""
+
+    def undone(self) -> LayerChange:
+        """What its undo makes of the layer."""
+        return LayerChange(self.after, self.before, "undo")
+
+
 class Steps:
     """What was done and what was undone, as far as the history of the program goes."""
 
@@ -61,6 +76,8 @@ class Steps:
         """
         self._done: list[Step] = []
         self._undone: list[Step] = []
+        self.layer_changes: list[LayerChange] = []
+        """All that was made of layers, in its order."""
         # Those of a session are counted from 1 on.
         group_at = {at: -number for number, group in enumerate(groups, 1) for at in group}
         for at, line in enumerate(lines):
@@ -77,12 +94,15 @@ class Steps:
         words = line.split()
         if words == ["undo"]:
             self._undone.append(self._done.pop())
+            self.layer_changes += [change.undone() for change in _layer_changes(self._undone[-1])]
             return self._undone[-1]
         if words == ["redo"]:
             self._done.append(self._undone.pop())
+            self.layer_changes += [change._replace(verb="redo") for change in _layer_changes(self._done[-1])]
             return self._done[-1]
         self._undone.clear()
         self._done.append(_step(editor, line, answer, group))
+        self.layer_changes += _layer_changes(self._done[-1])
         return self._done[-1]
 
     def moved_by(self, line: str) -> int:
@@ -96,6 +116,11 @@ class Steps:
     def done(self) -> list[Step]:
         """What was done and is not undone, in its order."""
         return list(self._done)
+
+    @property
+    def editors(self) -> set[int]:
+        """The numbers of those whose steps can be undone or redone. It may be asked by any thread."""
+        return {step.editor for step in [*self._done, *self._undone]}
 
     @property
     def to_undo(self) -> Step | None:
@@ -116,6 +141,14 @@ def _step(editor: int, line: str, answer: str, group: int) -> Step:
     did = tuple(Did(_shown(member), targets) for member, targets in zip(members, targets_of_members(members, answer)))
     targets = dict.fromkeys(target for each in did for target in each.targets)
     return Step(editor, _shown(f"together {len(did)}: {did[0].line}"), tuple(targets), group, did)
+
+
+def _layer_changes(step: Step) -> list[LayerChange]:
+    """What a step makes of a layer: one edit at most, as a group has no lines of layers."""
+    words = [] if step.members else step.line.split()
+    names = {"add": ["", *words[2:3]], "drop": [*words[2:3], ""], "rename": words[2:4]}
+    found = names.get(words[1], []) if words[:1] == ["layer"] and len(words) > 2 else []
+    return [LayerChange(found[0], found[1])] if len(found) == 2 else []
 
 
 def _shown(line: str) -> str:

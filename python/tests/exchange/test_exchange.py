@@ -350,10 +350,12 @@ class Import(ExchangeCase):
     def test_a_file_that_is_there(self):
         self.points({1: (KINDS["point"], {})})
         self.store.write_bytes(b"precious")
-        status, _, err = bring_in(self.source, self.store, *GRID)
-        self.assertEqual(status, 3)
-        self.assertIn("is there already: --overwrite replaces it", err)
-        self.assertEqual(self.store.read_bytes(), b"precious")
+        for words, why in (([], "is there already: --overwrite replaces it"), (["--overwrite"], "is no store, and --overwrite replaces")):
+            status, _, err = bring_in(self.source, self.store, *GRID, *words)
+            self.assertEqual(status, 3)
+            self.assertIn(why, err)
+            self.assertEqual(self.store.read_bytes(), b"precious")
+        self.store.write_bytes(b"")
         self.assertEqual(bring_in(self.source, self.store, *GRID, "--overwrite")[0], 0)
         with Store(self.store, journal=True, program=PROGRAM) as store:
             status, _, err = bring_in(self.source, self.store, *GRID, "--overwrite")

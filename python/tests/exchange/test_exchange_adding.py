@@ -4,13 +4,14 @@ from __future__ import annotations
 
 import json
 import unittest
+from dataclasses import replace
 from unittest import mock
 
 from support import PROGRAM
 
 from test_exchange import GRID, HAS_GDAL, ExchangeCase, Source, bring_in, give_back  # isort: skip
 from test_exchange_rules import APART, OVERLAPPING, PARCELS, PLACED, in_map  # isort: skip
-from sfstore import Rule, Store
+from sfstore import Rule, Store, sidecar
 from sfstore.exchange import adding, ruling
 
 if HAS_GDAL:
@@ -170,6 +171,37 @@ class Added(AddingCase):
         self.assertIn("houses: 0 features read, 0 taken\n  the store has no such layer: houses: its 1 features are left out\n", out)
         self.assertIn("wells: 0 features read, 0 taken\n  another reference system: EPSG:4326 in place of EPSG:25832", out)
         self.assertEqual(self.opened()[1]["Flurstucke"][-1], f"10 {FAR} Besitzer='y'")
+
+    def test_what_is_left_out_is_said_by_an_export_over_a_file(self):
+        source = Source(self.more)
+        columns = [("number", ogr.OFTString), ("photo", ogr.OFTBinary), ("Besitzer", ogr.OFTString)]
+        crossed = in_map("POLYGON ((0 0, 3 3, 3 0, 0 2, 0 0))")
+        features = {4: (in_map(FAR), {"number": "x", "Besitzer": "y"}), 5: (crossed, {}), 6: (in_map("POINT (1 1)"), {})}
+        source.layer("Flurstücke", features, columns=columns).close()
+        self.assertEqual(self.add()[0], 1)
+        Store(self.store, journal=True, program=PROGRAM).close()
+        found = sidecar.read(str(self.store))
+        words = (
+            "Flurstücke is without what the addition of more.gpkg has left out: 2 features; all of photo, number. "
+            "What is replaced may have them"
+        )
+        self.assertEqual(give_back(self.store, self.target), (0, "", ""))
+        self.assertIn(words, give_back(self.store, self.target, "--overwrite")[2])
+        # As often as it is added it is one source.
+        self.assertEqual(self.add()[0], 1)
+        self.assertEqual(sidecar.read(str(self.store)).additions, found.additions)
+        self.assertEqual(len(found.additions), 1)
+
+    def test_nothing_is_noted_where_nothing_is_added_or_nothing_left_out(self):
+        before = sidecar.read(str(self.store))
+        self.brought(wells=[(1, "POINT (2 2)")])
+        self.assertEqual(self.add()[0], 0)
+        self.ruled(APART)
+        self.assertEqual(sidecar.read(str(self.store)).additions, [])
+        source = Source(self.more)
+        source.layer("Flurstücke", {1: (in_map(OVERLAPPING), {}), 2: (in_map("POINT (1 1)"), {})}).close()
+        self.assertEqual(self.add()[0], 3)
+        self.assertEqual(sidecar.read(str(self.store)), replace(before, digests=sidecar.read(str(self.store)).digests))
 
     def test_nothing_to_add(self):
         self.brought(wells=[])

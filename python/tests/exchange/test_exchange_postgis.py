@@ -299,6 +299,19 @@ class Others(DatabaseCase):
             self.written(self.store, self.target, "--overwrite")
             self.assertEqual(self.ask("SELECT osm, n, x FROM w ORDER BY n"), [(first, 1, 5), (third, 3, None)])
 
+    def test_rows_that_an_addition_has_left_out_stay(self):
+        self.ask("CREATE TABLE w (id int PRIMARY KEY, geom geometry(Point)); INSERT INTO w VALUES (1, 'POINT(1 2)')")
+        self.assertEqual(bring_in(self.target, self.store, *PLAIN[:4])[0], 0)
+        self.ask("INSERT INTO w VALUES (2, 'POINT(1.5 3)'), (3, 'POINT(4 4)')")
+        before = self.ask("SELECT * FROM w ORDER BY id")
+        self.assertEqual(bring_in(self.target, self.store, "--add")[0], 1)
+        Store(self.store, journal=True, program=PROGRAM).close()
+        err = self.refused(self.store, self.target, "--overwrite")
+        self.assertIn("the table w has features of which an addition has left out all or some values: 2. They would be lost", err)
+        self.assertEqual(self.ask("SELECT * FROM w ORDER BY id"), before)
+        self.ask("DELETE FROM w WHERE id = 2")
+        self.written(self.store, self.target, "--overwrite")
+
     def test_rows_that_a_policy_hides_are_not_removed(self):
         with self.asking("postgres") as ask:
             ask("CREATE ROLE clerk LOGIN")

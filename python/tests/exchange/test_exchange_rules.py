@@ -90,6 +90,11 @@ class OutAndIn(RuledCase):
         self.assertEqual(len(rules.read_text().splitlines()), 3)
         for same in (self.store, f"{self.store}.json", self.target):
             self.assertEqual(give_back(self.store, self.target, "--rules", same, "--overwrite")[0], 2)
+        other = self.folder / "other.gpkg"
+        other.write_bytes(before := self.target.read_bytes())
+        status, _, err = give_back(self.store, self.target, "--rules", other, "--overwrite")
+        self.assertEqual((status, other.read_bytes()), (3, before))
+        self.assertIn("is a map or no text, and --overwrite replaces none by rules", err)
 
     def test_a_rule_of_a_layer_that_stays_behind_is_not_kept(self):
         self.made()

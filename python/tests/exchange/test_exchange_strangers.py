@@ -10,6 +10,7 @@ import socket
 import sqlite3
 import unittest
 from decimal import Decimal
+from pathlib import Path
 from unittest import mock
 
 from support import PROGRAM
@@ -489,6 +490,20 @@ class Views(ExchangeCase):
 
 
 class Odd(ExchangeCase):
+    def test_reference_systems_without_a_code_are_told_by_their_names(self):
+        source = Source(self.source)
+        for name in ("wells", "zones"):
+            source.layer(name, {1: (POINT, {})}, ogr.wkbPoint)
+        source.close()
+        with contextlib.closing(sqlite3.connect(self.source)) as data:
+            for table in ("gpkg_geometry_columns", "gpkg_contents"):
+                data.execute(f"UPDATE {table} SET srs_id = CASE table_name WHEN 'wells' THEN 0 ELSE -1 END")
+            data.commit()
+        status, out, _ = bring_in(self.source, self.store, *GRID, "--overwrite")
+        self.assertEqual(status, 1)
+        systems = "one without a code (Undefined Cartesian SRS) in place of one without a code (Undefined geographic SRS)"
+        self.assertIn(f"another reference system: {systems}: the layer is left out", out)
+
     def test_names_that_are_not_utf_8(self):
         """A Shapefile whose names and texts are Latin-1, while it says UTF-8."""
         self.source = self.folder / "s.shp"
@@ -564,6 +579,30 @@ class Reports(ExchangeCase):
             self.assertFalse(self.store.exists())
         self.assertEqual(bring_in(*words, "--overwrite")[0], 1)
         self.assertNotEqual(notes.read_text(), "mine")
+
+    def test_overwrite_replaces_a_store_by_a_store_and_no_map_by_a_report(self):
+        map_of_json = self.folder / "map.geojson"
+        map_of_json.write_text('{"type": "FeatureCollection", "features": []}')
+        others = [self.folder / "map.gpkg", map_of_json, self.folder / "t.dbf"]
+        shutil.copy(self.source, others[0])
+        others[2].write_bytes(b"\x03\0\0\0")
+        before = [path.read_bytes() for path in others]
+        for path in others:
+            self.assertIn("is no store, and --overwrite replaces", bring_in(self.source, path, *GRID, "--overwrite")[2])
+            words = ["--report", "--faulty"] if path.suffix in (".gpkg", ".geojson") else ["--report"]
+            for word in words:
+                status, _, err = bring_in(self.source, self.store, *GRID, "--overwrite", word, path)
+                self.assertEqual(status, 3)
+                self.assertIn(f"{path} is a map or no text, and --overwrite replaces none by a report", err)
+        self.assertEqual([path.read_bytes() for path in others], before)
+        self.assertFalse(self.store.exists())
+        # What an import has written gives way to the next one, and so does a store of an older version.
+        for word, name in (("--report", "r.txt"), ("--faulty", "f.geojson"), ("--faulty", "f.gpkg")):
+            for _ in range(2):
+                self.assertEqual(bring_in(self.source, self.store, *GRID, "--overwrite", word, self.folder / name)[0], 1)
+        Path(f"{self.store}.json").unlink()
+        self.store.write_bytes(b"SFSTORE1 of long ago")
+        self.assertEqual(bring_in(self.source, self.store, *GRID, "--overwrite")[0], 1)
 
     def test_a_report_that_comes_in_the_way_meanwhile(self):
         notes = self.folder / "notes.txt"

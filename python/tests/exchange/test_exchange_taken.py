@@ -12,7 +12,7 @@ from support import PROGRAM
 from test_exchange import GRID, HAS_GDAL, ExchangeCase, Source, bring_in, give_back
 from test_exchange_sets import PLAIN, SetCase
 
-from sfstore import Store
+from sfstore import Store, sidecar
 from sfstore.exchange.grid import Grid, OffGrid, Rounding
 from sfstore.language import POINTS_MAX
 
@@ -382,6 +382,14 @@ class SameMap(SetCase):
         self.assertEqual(status, 3)
         self.assertIn("take it with --same-map", err)
         self.assertEqual(bring_in(self.source, self.store, "--add", "--same-map")[0], 0)
+
+    def test_an_addition_that_leaves_something_out_takes_it_too(self):
+        self.points({1: (POINT, {}), 2: ("POINT (500000.5 5600000.001)", {})}, name="Brunnen", columns=[("Größe", ogr.OFTReal)])
+        self.assertEqual(bring_in(self.source, self.store, "--add", "--same-map")[0], 1)
+        found = sidecar.read(str(self.store))
+        self.assertEqual([each.left_out for each in found.additions], [[2]])
+        Store(self.store, journal=True, program=PROGRAM).close()
+        self.assertEqual(give_back(self.store, self.target), (0, "", ""))
 
     def test_a_grid_of_ones_own_is_not_taken_beside_it(self):
         status, _, err = give_back(self.store, self.target, *GRID)

@@ -201,7 +201,7 @@ class JournalThreats(TestCase):
                     timeout=60,
                 )
                 os.unlink(place)
-                self.assertIn(f"it is no file: '{place}'", said.stderr)
+                self.assertRegex(said.stderr, f"it is no file: '{place}'|{place} can't be read: it is no file")
 
     def test_a_side_car_that_is_none_stops_no_save(self):
         for content in ("[" * 100_000, '{"format": "sfstore side-car 1", "layers": ["x"]}', "5", ""):

@@ -463,6 +463,20 @@ class Modes(StoreCase):
             os.umask(before)
         self.assertEqual([self.mode(path) for path in (self.path, self.journal, self.lock)], [0o640, 0o640, 0o600])
 
+    @unittest.skipUnless(os.geteuid() == 0, "only root can be another user")
+    def test_a_file_that_may_not_be_written_is_replaced_where_the_folder_may_be(self) -> None:
+        self.path.write_bytes(plain([]).file)
+        self.path.chmod(0o444)
+        for path in (Path(self.folder), self.path):
+            os.chown(path, NOBODY, NOBODY)
+        for words in (["--store", self.path], ["--load", self.path, "--save", self.path]):
+            before = self.path.read_bytes()
+            line = b"layer add l%d point\n" % len(before)
+            said = subprocess.run([PROGRAM, *words], input=line, capture_output=True, user=NOBODY, group=NOBODY, extra_groups=[])
+            self.assertEqual((said.returncode, said.stdout), (0, b"ok\n"))
+            self.assertEqual(self.mode(self.path), 0o444)
+            self.assertGreater(len(self.path.read_bytes()), len(before))
+
     def precious(self) -> Path:
         """A file of the user's, which must stay as it is."""
         path = Path(self.folder) / "precious"

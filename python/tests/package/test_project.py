@@ -14,8 +14,8 @@ from support import FOLDER, PROGRAM, TestCase
 
 TOP = FOLDER.parent
 PIP = ("pip", "setuptools", "wheel")
-OPTIONAL = ("osgeo", "prompt_toolkit", "psycopg2", "rich")
-TYPED = ("prompt_toolkit", "rich")
+OPTIONAL = ("h11", "osgeo", "prompt_toolkit", "psycopg2", "rich")
+TYPED = ("h11", "prompt_toolkit", "rich")
 
 
 class Project(TestCase):

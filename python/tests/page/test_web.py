@@ -209,6 +209,30 @@ class People(WebCase):
         self.assertEqual(ann.refused("undo")["whose"]["editor"], "Ben Ito")
         self.assertEqual(ben.answer("undo"), "ok")
 
+    def test_a_number_whose_steps_can_be_undone_is_nobody_elses(self):
+        with Store(self.path, journal=True, program=PROGRAM) as store:
+            store.add_layer("w", "point")
+            store.editor(1).add("w", "POINT (1 1)")
+            store.editor(3).add("w", "POINT (2 2)")
+            store.editor(3).undo()
+            store.close(save=False)
+        serving = self.serve()
+        ann, ben = serving.log_in("Ann"), serving.log_in("Ben")
+        self.assertEqual((ann.editor, ben.editor), (2, 4))
+        self.assertEqual(ann.refused("undo")["whose"]["editor"], "editor 1")
+        self.assertEqual(ben.refused("redo")["whose"]["editor"], "editor 3")
+        ben.line("save")
+        # Nobody can undo what is saved.
+        self.assertEqual(serving.log_in("Cid").editor, 1)
+
+    def test_who_comes_once_the_names_are_gone_gets_nobodys_steps(self):
+        serving = self.serve()
+        serving.log_in("Ann").line("layer add w point")
+        serving.end(signal.SIGKILL)
+        self.path.with_name("town.sfs.editors").unlink()
+        ben = self.serve().log_in("Ben")
+        self.assertEqual((ben.editor, ben.refused("undo")["whose"]["editor"]), (2, "editor 1"))
+
     def test_what_is_no_name(self):
         serving = self.serve()
         link = link_of(serving.owners_address)
@@ -553,6 +577,30 @@ class Ending(WebCase):
         with self.assertRaises(JournalError):
             Store(other, journal=True, program=PROGRAM)
 
+    def test_a_missing_part_of_python_is_told_in_a_sentence(self):
+        self.make(b"layer add w point\n")
+        code = f"import sys; sys.modules['h11'] = None\nfrom sfstore.web.command import main\nsys.exit(main([{str(self.path)!r}]))"
+        ended = subprocess.run([sys.executable, "-c", code], env=self.environment(), capture_output=True, text=True, timeout=60)
+        self.assertEqual((ended.returncode, ended.stdout), (3, ""))
+        self.assertEqual(ended.stderr, "sfstore-web: the page needs h11 for Python (Debian's package python3-h11)\n")
+
+    def test_what_stands_beside_and_can_not_be_read_is_told_in_words(self):
+        self.make(b"layer add w point\n")
+        for ending, data, why in (
+            (".editors", b"{", " can't be read: Expecting"),
+            (".editors", b"[1]", " has no list of names"),
+            (".editors", None, " can't be read: Is a directory"),
+            (".batches", None, ": Is a directory"),
+        ):
+            with self.subTest(ending=ending, data=data):
+                beside = self.path.with_name(self.path.name + ending)
+                if data is None:
+                    beside.mkdir()
+                else:
+                    beside.write_bytes(data)
+                self.assertIn(f"sfstore-web: {beside}{why}", self.failed(self.path))
+                beside.rmdir() if data is None else beside.unlink()
+
     def test_help(self):
         words = [sys.executable, "-m", "sfstore.web.command", "--help"]
         said = subprocess.run(words, env=self.environment(), capture_output=True, text=True, check=True)
@@ -596,7 +644,8 @@ class Guards(WebCase):
         for host in ("evil.example", f"evil.example:{port}", "127.0.0.1", f"127.0.0.1:{port}.evil.example", "", None):
             for method, path in (("GET", "/"), ("POST", "/line"), ("POST", "/login"), ("GET", "/events")):
                 body = self.body if method == "POST" else None
-                self.assertEqual(self.status(method, path, body, Host=host), 403, (host, path))
+                # A request without a host is none.
+                self.assertEqual(self.status(method, path, body, Host=host), 400 if host is None else 403, (host, path))
         for origin in ("http://evil.example", "null", f"https://127.0.0.1:{port}", f"http://localhost:{port}", ""):
             self.assertEqual(self.status("POST", "/line", self.body, Origin=origin), 403, origin)
             self.assertEqual(self.status("GET", "/page.js", Origin=origin), 403, origin)
@@ -655,7 +704,8 @@ class Guards(WebCase):
         self.assertEqual(self.status("POST", "/line", b"", Content_Length=str(len(too_long))), 413)
         self.assertEqual(self.status("POST", "/line", b"", Content_Length="9" * 5_000), 413)
         body = json.dumps(self.ann.body("layer add two point")).encode()
-        for second in (len(body), 0):
+        for second, status in ((0, b"400"), (len(body) + 1, b"400"), (len(body), b"200")):
+            # One length that stands twice is one.
             head = (
                 f"POST /line HTTP/1.1\r\nHost: {self.serving.host}\r\nOrigin: http://{self.serving.host}\r\n"
                 f"Authorization: Bearer {self.serving.key}\r\nContent-Type: application/json\r\n"
@@ -663,10 +713,11 @@ class Guards(WebCase):
             )
             with socket.create_connection(("127.0.0.1", self.serving.port), 10) as connection:
                 connection.sendall(head.encode() + body)
-                self.assertTrue(connection.recv(4096).startswith(b"HTTP/1.1 400 "))
-        self.assertNotIn("two", str(self.ann.line("layers")))
-        for length in ("-1", "x", "", "１", "0x10", "1 1"):
-            self.assertEqual(self.raw(length), b"411", length)
+                self.assertTrue(connection.recv(4096).startswith(b"HTTP/1.1 " + status))
+            self.assertEqual("two" in str(self.ann.line("layers")), status == b"200")
+        self.ann.answer("undo")
+        for length in ("-1", "x", "", "１", "0x10", "1 1", "1,2"):
+            self.assertEqual(self.raw(length), b"400", length)
         self.assertEqual(self.status("POST", "/line", b"", Transfer_Encoding="chunked", Content_Length="1"), 411)
 
     def raw(self, length):
@@ -705,6 +756,39 @@ class Guards(WebCase):
             self.assertNotIn(b" 200 ", found.partition(b"\n")[0], data[:40])
             self.assertNotIn(b"text/html", found)
         self.assertEqual(self.sent(b""), b"")
+
+    def test_heads_that_are_none(self):
+        host = f"Host: {self.serving.host}\r\n".encode()
+        lines = [b"X", b"X : y", b": y", b"X y", b"X(: y", b"X\x01: y", b"X: a\0b", b"X: a\rb", b"X: \x0b", b"\xc3\xa9: y"]
+        lines += [b"Content-Length: 5\r\nContent-Length: 6", b"Content-Length: x", b"Transfer-Encoding: gzip, chunked"]
+        lines += [b"Transfer-Encoding: chunked\r\nTransfer-Encoding: chunked", b"X: " + b"y" * 200_000]
+        heads = [b"GET / HTTP/1.1\r\n" + host + line + b"\r\n\r\n" for line in lines]
+        firsts = (b"GET  / HTTP/1.1", b"GET / HTTP/1.1 ", b" GET / HTTP/1.1", b"GET / HTTP/1", b"GET /\0 HTTP/1.1", b"G(T / HTTP/1.1", b"GET /")
+        heads += [first + b"\r\n" + host + b"\r\n" for first in firsts]
+        for head in heads:
+            found = self.sent(head)
+            self.assertRegex(found, rb"^HTTP/1\.1 (400|431|501) ", head[:80])
+            self.assertIn(b"\r\nConnection: close\r\n", found)
+
+    def test_several_requests_on_one_connection(self):
+        host = self.serving.host
+        get = f"GET /icon.svg HTTP/1.1\r\nHost: {host}\r\n\r\n".encode()
+        call = f"POST /me HTTP/1.1\r\nHost: {host}\r\nOrigin: http://{host}\r\nAuthorization: Bearer {self.serving.key}\r\n"
+        call += "Content-Type: application/json\r\nContent-Length: 2\r\nExpect: 100-continue\r\n\r\n{}"
+        found = self.sent(get + call.encode() + get)
+        self.assertEqual([found.count(b"HTTP/1.1 200 OK\r\n"), found.count(b"</svg>"), found.count(b'"name":"Ann"')], [3, 2, 1])
+        # A client that waits for it is told to go on.
+        with socket.create_connection(("127.0.0.1", self.serving.port), timeout=30) as connection:
+            connection.sendall(call.encode()[:-2])
+            self.assertEqual(connection.recv(4096), b"HTTP/1.1 100 \r\n\r\n")
+            connection.sendall(b"{}")
+            self.assertTrue(connection.recv(4096).startswith(b"HTTP/1.1 200 OK\r\n"))
+        # A body of a GET is not read as another request.
+        found = self.sent(get.replace(b"\r\n\r\n", f"\r\nContent-Length: {len(get)}\r\n\r\n".encode()) + get)
+        self.assertEqual((found[:13], found.count(b"HTTP/1.1 ")), (b"HTTP/1.1 400 ", 1))
+        # An older client has its answer and is left.
+        found = self.sent(get.replace(b"HTTP/1.1", b"HTTP/1.0") + get)
+        self.assertEqual(found.count(b"</svg>"), 1)
 
     def test_two_requests_in_one(self):
         # What is behind a request that is refused is not read as another one.

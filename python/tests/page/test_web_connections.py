@@ -7,11 +7,15 @@ import socket
 import threading
 import time
 import unittest
+from importlib.util import find_spec
 from unittest import mock
 
 from support import TestCase
 from test_web import Listening
 from web_support import WebCase
+
+if find_spec("h11") is None:
+    raise unittest.SkipTest("no h11 (apt-get install python3-h11)")
 
 from sfstore.web import connections, server
 from sfstore.web.connections import Connections

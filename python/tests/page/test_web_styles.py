@@ -6,10 +6,12 @@ import errno
 import json
 import os
 import signal
+import subprocess
 import unittest
 from pathlib import Path
 from unittest import mock
 
+from support import PROGRAM
 from test_web import Listening
 from web_support import WebCase
 
@@ -104,7 +106,7 @@ class Calls(WebCase):
         self.assertEqual(self.serving.call("/style", layer="parcels", style=WHOLE), {})
         self.assertEqual(page.next(), {"styled": "parcels"})
         self.assertEqual(self.styles(), {"parcels": WHOLE})
-        self.assertEqual(json.loads(self.file.read_text()), {"format": "sfstore styles 1", "layers": {"parcels": WHOLE}})
+        self.assertEqual(json.loads(self.file.read_text())["layers"], {"parcels": WHOLE})
         self.serving.end(signal.SIGKILL)
         self.serving = self.serve()
         self.assertEqual(self.styles(), {"parcels": WHOLE})
@@ -132,6 +134,76 @@ class Calls(WebCase):
         self.assertEqual(json.loads(self.file.read_text())["layers"], {"springs": {"size": 5}})
         self.ann.answer("layer drop springs")
         self.ann.answer("undo")
+        self.assertEqual(self.styles(), {"springs": {"size": 5}})
+
+    def test_a_layer_takes_no_style_of_another_one_of_its_name(self):
+        self.serving.call("/style", layer="wells", style={"size": 5})
+        self.ann.answer("layer drop wells")
+        self.assertEqual(self.styles(), {})
+        self.ann.answer("layer rename streets wells")
+        self.assertEqual(self.styles(), {})
+        self.serving.call("/style", layer="wells", style={"width": 2})
+        self.ann.answer("layer rename wells roads")
+        self.ann.answer("layer add wells point")
+        self.assertEqual(self.styles(), {"roads": {"width": 2}})
+        self.serving.call("/style", layer="wells", style={"size": 9})
+        for wanted in (
+            {"roads": {"width": 2}},
+            {"wells": {"width": 2}},
+            {"streets": {"width": 2}},
+            {"streets": {"width": 2}, "wells": {"size": 5}},
+        ):
+            self.ann.answer("undo")
+            self.assertEqual(self.styles(), wanted)
+        for _ in range(4):
+            self.ann.answer("redo")
+        self.assertEqual(self.styles(), {"roads": {"width": 2}, "wells": {"size": 9}})
+
+    def test_a_style_goes_with_what_the_program_alone_has_done_meanwhile(self):
+        self.serving.call("/style", layer="wells", style={"size": 5})
+        self.serving.call("/style", layer="streets", style={"width": 2})
+        self.ann.answer("layer rename wells springs")
+        self.serving.end()
+        self.alone(b"layer rename springs sources\nlayer drop streets\nlayer add streets linestring\n", "--keep")
+        self.serving = self.serve()
+        self.assertEqual(self.styles(), {"sources": {"size": 5}})
+        # What was there before the server began can be undone, and is followed once.
+        self.serving.end()
+        self.alone(b"undo\nundo\n", "--keep")
+        self.serving = self.serve()
+        self.assertEqual(self.styles(), {"sources": {"size": 5}, "streets": {"width": 2}})
+        self.serving.log_in("Ann").line("save")
+        self.serving.end()
+        # A save begins a journal of the same length.
+        self.alone(b"layer rename sources wells\n", "--keep")
+        self.serving = self.serve()
+        self.assertEqual(self.styles(), {"wells": {"size": 5}, "streets": {"width": 2}})
+
+    def alone(self, lines, *words):
+        """Has the program edit the store, without a server."""
+        said = subprocess.run([PROGRAM, f"--store={self.path}", *words], input=lines, capture_output=True, check=True)
+        self.assertNotIn(b"refused", said.stdout)
+
+    def test_of_what_the_program_alone_has_saved_names_are_known(self):
+        self.serving.call("/style", layer="wells", style={"size": 5})
+        self.serving.end()
+        self.alone(b"layer drop wells\n")
+        self.serving = self.serve()
+        self.ann = self.serving.log_in("Ann")
+        self.ann.answer("layer add wells point")
+        self.assertEqual(self.styles(), {})
+
+    def test_what_can_not_be_written_goes_with_its_layer_all_the_same(self):
+        self.serving.call("/style", layer="wells", style={"size": 5})
+        kept = self.file.read_bytes()
+        self.file.unlink()
+        self.file.mkdir()
+        self.ann.answer("layer rename wells springs")
+        self.assertEqual(self.styles(), {"springs": {"size": 5}})
+        self.serving.end(signal.SIGKILL)
+        self.file.rmdir()
+        self.file.write_bytes(kept)
+        self.serving = self.serve()
         self.assertEqual(self.styles(), {"springs": {"size": 5}})
 
     def test_what_is_refused_changes_nothing(self):
@@ -181,6 +253,12 @@ class File(WebCase):
             inner % '{"w": {"label": "</script><img src=x>"}}',
             inner % '{"w": {"size": 1e999}}',
             inner % '{"w": {"size": NaN}}',
+            inner[:-1] % "{}" + ', "gone": []}',
+            inner[:-1] % "{}" + ', "gone": {"w": {}}}',
+            inner[:-1] % "{}" + ', "gone": {"undo": {"w": {}}}}',
+            inner[:-1] % "{}" + ', "gone": {"undo": {"w": [{"colour": "red"}]}}}',
+            inner[:-1] % "{}" + ', "journal": {"head": 5, "followed": 0}}',
+            inner[:-1] % "{}" + ', "journal": {"head": "", "followed": -1}}',
             b"\xff\xfe\x00",
         ):
             with self.subTest(text=text[:60]):

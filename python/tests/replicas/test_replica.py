@@ -478,7 +478,10 @@ class Sessions(ReplicaCase):
         status, _, said = self.command("drop", self.owner, "3", "--alike", "2", "--older", "0")
         self.assertEqual(status, 3)
         self.assertIn("1 different files of 1 replicas; one file of 2 is wanted", said)
-        self.assertEqual(self.command("drop", self.owner, "3", "--alike", "1", "--older", "0")[:2], (0, "3 entries are dropped.\n"))
+        wanted = "3 entries are dropped: places 1 to 3. 0 entries stay behind the cut.\n"
+        self.assertEqual(self.command("drop", self.owner, "3", "--alike", "1", "--older", "0")[:2], (0, wanted))
+        wanted = "0 entries are dropped: those up to place 3 were dropped before. 0 entries stay behind the cut.\n"
+        self.assertEqual(self.command("drop", self.owner, "3", "--alike", "1", "--older", "0")[:2], (0, wanted))
         self.assertEqual(self.session("ann", b"show w\nundo\n").stdout, b"rows 1\n1 POINT (3 4)\nrefused 29 NothingToUndo\n")
         status, said, _ = self.command("login", self.owner, "dora", "--editor", "--replica")
         self.addCleanup(self.ask, "DROP ROLE dora", database="postgres")
