@@ -9,7 +9,7 @@ from typing import NamedTuple
 
 from sfstore.geometry import Flat, Shape
 
-__all__ = ["Edge", "Point", "Polygon", "doubled", "edges_of", "is_in", "polygons_of", "split_at", "written"]
+__all__ = ["Edge", "Point", "Polygon", "doubled", "edges_of", "polygons_of", "split_at", "written"]
 
 Point = tuple[int, int]
 Edge = tuple[Point, Point]
@@ -54,7 +54,7 @@ def polygons_of(edges: Iterable[Edge]) -> list[Polygon]:
     rings = [ring for walk in _walks(edges) for ring in _simple(walk)]
     shells = [Polygon(ring, []) for ring in rings if doubled(ring) > 0]
     for hole in (ring for ring in rings if doubled(ring) < 0):
-        around = [shell for shell in shells if is_in(hole, shell.shell)]
+        around = [shell for shell in shells if _is_in(hole, shell.shell)]
         if not around:
             raise ValueError("a hole lies in no shell")
         min(around, key=lambda polygon: doubled(polygon.shell)).holes.append(hole)
@@ -78,7 +78,7 @@ def _line(ring: Ring) -> Flat:
     return [number for point in (*ring, ring[0]) for number in point]
 
 
-def doubled(ring: Ring) -> int:
+def doubled(ring: Sequence[Point]) -> int:
     """Twice the area of a ring: positive where it goes round to the left."""
     return sum(x * d - y * c for (x, y), (c, d) in zip(ring, [*ring[1:], ring[0]]))
 
@@ -162,7 +162,7 @@ def _simple(walk: Ring) -> Iterator[Ring]:
     yield path
 
 
-def is_in(ring: Ring, shell: Ring) -> bool:
+def _is_in(ring: Ring, shell: Ring) -> bool:
     """Whether a ring that crosses no edge of a shell lies in it: the middle of its first edge that is none of the shell's.
 
     Twice each coordinate is taken, so that the middle is a whole one.

@@ -8,6 +8,7 @@ from functools import partial
 from sfstore.editor import Editor
 from sfstore.geometry import Shape, read_wkt, write_wkt
 from sfstore.tools.cutting import bent_by, cut_of, is_planar, neighbours_of, with_corners
+from sfstore.tools.notdone import NotDone
 from sfstore.tools.pins import pins_of, points_of, shape_of
 from sfstore.tools.rings import doubled, edges_of, polygons_of, written
 
@@ -21,7 +22,7 @@ def split(store: Editor, layer: str, feature_id: int, line: str, *, beside: Sequ
     once. It goes into each feature whose border passes there, of the layer and of the layers ``beside``, and the corners of
     all of these on an edge that it bends do too: so the parts fit their neighbours as before.
 
-    `ValueError` where the feature is no POLYGON, nor a MULTIPOLYGON of one. The same where the line does not part it, crosses
+    `NotDone` where the feature is no POLYGON, nor a MULTIPOLYGON of one. The same where the line does not part it, crosses
     itself in it, or parts it too narrowly for the grid. `Refused` where the program refuses the line or the group, and
     nothing has changed.
 
@@ -40,7 +41,7 @@ def split(store: Editor, layer: str, feature_id: int, line: str, *, beside: Sequ
     shape = _area(store, layer, feature_id)
     cutter = read_wkt(line)
     if cutter.code != 2:
-        raise ValueError("the line is no LINESTRING")
+        raise NotDone("the line is no LINESTRING")
     border = list(edges_of(shape))
     cut = cut_of(border, points_of(cutter.members[0][0]))
     layers = list(dict.fromkeys((layer, *beside)))
@@ -49,10 +50,10 @@ def split(store: Editor, layer: str, feature_id: int, line: str, *, beside: Sequ
     cut.pins = pins_of(store, layers, bent_by([shape, *neighbours.values()], cut))
     edges = list(cut.edges(border))
     if len(set(edges)) < len(edges) or not is_planar({(min(edge), max(edge)) for edge in edges}, cut.moved):
-        raise ValueError(f"the line crosses itself in {layer} {feature_id}, or parts it too narrowly for the grid")
+        raise NotDone(f"the line crosses itself in {layer} {feature_id}, or parts it too narrowly for the grid")
     parts = sorted(polygons_of(edges), key=lambda part: -doubled(part.shell))
     if len(parts) < 2:
-        raise ValueError(f"the line does not part {layer} {feature_id}")
+        raise NotDone(f"the line does not part {layer} {feature_id}")
     texts = [write_wkt(Shape(shape.code, written([part]).members)) for part in parts]
     [feature] = store.get(layer, feature_id)
     with store.together() as group:
@@ -69,8 +70,8 @@ def split(store: Editor, layer: str, feature_id: int, line: str, *, beside: Sequ
 
 
 def _area(store: Editor, layer: str, feature_id: int) -> Shape:
-    """The polygon of a feature. `ValueError` where it is none, nor a MULTIPOLYGON of one."""
+    """The polygon of a feature. `NotDone` where it is none, nor a MULTIPOLYGON of one."""
     shape = shape_of(store, layer, feature_id)
     if shape.code != 3 and (shape.code != 6 or len(shape.members) > 1):
-        raise ValueError(f"{layer} {feature_id} is no POLYGON")
+        raise NotDone(f"{layer} {feature_id} is no POLYGON")
     return shape
