@@ -1,4 +1,4 @@
-"""Overlaps and gaps of a coverage that are narrower than a distance, taken away, each told."""
+"""Overlaps and gaps of a coverage that are narrower than a distance, taken away; each is shown."""
 
 from __future__ import annotations
 
@@ -85,7 +85,7 @@ def cleaning(store: Editor, layer: str, within: Distance) -> Plan:
 
     Corners and edges of different features that are no farther apart become one. Then each overlap that is narrower goes to one of
     those that overlap, and each gap to one of those around it: to the one with which it has the longest border. How wide one
-    is, is twice its area by the length of its border. What is wider is left as it is, and told.
+    is, is twice its area by the length of its border. What is wider stays as it is, and is shown.
 
     >>> from sfstore import Store
     >>> with Store() as store:
