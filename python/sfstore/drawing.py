@@ -4,6 +4,7 @@ from __future__ import annotations
 
 import re
 from collections.abc import Callable, Sequence
+from decimal import Decimal
 from fractions import Fraction
 
 from sfstore.editor import Editor
@@ -190,8 +191,8 @@ class Drawing:
 
     def _area(self, squared_steps: Fraction) -> str:
         """An area as the person counts: exact, as a whole number of halves has an end."""
-        step = Fraction(self._units.step) if self._units else Fraction(1)
-        return _decimal(squared_steps * step * step)
+        number = Decimal(squared_steps.numerator) / squared_steps.denominator
+        return format(self._units.area(number) if self._units else number, "f")
 
 
 _ASKING = {"snap", "clean"}
@@ -211,13 +212,3 @@ def _names(features: Sequence[Which]) -> str:
 
 def _counted(count: int, what: str) -> str:
     return f"{count:,} {what}{'' if count == 1 else 's'}"
-
-
-def _decimal(number: Fraction) -> str:
-    """A number whose denominator has the factors 2 and 5 alone, in full."""
-    places = 0
-    while number.denominator != 1 and (number * 10**places).denominator != 1:
-        places += 1
-    digits = str(abs(int(number * 10**places))).rjust(places + 1, "0")
-    sign = "-" if number < 0 else ""
-    return f"{sign}{digits[:-places]}.{digits[-places:]}" if places else f"{sign}{digits}"
