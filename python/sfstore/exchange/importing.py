@@ -403,6 +403,13 @@ def _of_one_crs(
     return crs, taken
 
 
+class _OneScreen(argparse.HelpFormatter):
+    """Writes the help without a blank line at its end, so that it fits on a screen."""
+
+    def format_help(self) -> str:
+        return super().format_help().replace("\n\nStatus", "\nStatus")
+
+
 def parser() -> argparse.ArgumentParser:
     """The words of the command."""
     wanted = argparse.ArgumentParser(
@@ -411,6 +418,7 @@ def parser() -> argparse.ArgumentParser:
         epilog="Status 0: all was taken; 1: not all; 2: wrong words; "
         f"{outcome.EPILOG} More: man sfstore-import, docs/use/EXCHANGE.md",
         add_help=False,
+        formatter_class=_OneScreen,
     )
     # What it does is the options' heading: so all fits on a screen.
     options = wanted.add_argument_group("Makes the store's FILE of PG:dbname=.., or of a .gpkg, .geojson, .fgb or .shp")
