@@ -3,13 +3,13 @@
 from __future__ import annotations
 
 from collections import Counter
-from collections.abc import Iterable, Iterator, Sequence
+from collections.abc import Iterator, Sequence
 from functools import partial
 from typing import NamedTuple
 
 from sfstore.editor import Editor
 from sfstore.geometry import Shape, read_wkt, write_wkt
-from sfstore.tools.cutting import Cut, bent_by, cut_of, is_planar, neighbours_of, with_corners
+from sfstore.tools.cutting import Cut, bent_by, cut_of, fault_of, loose_end, neighbours_of, with_corners
 from sfstore.tools.merging import area_of, check_apart
 from sfstore.tools.notdone import NotDone
 from sfstore.tools.pins import pairs, pins_of, points_of
@@ -155,8 +155,9 @@ def _parts(cut: Cut, owners: dict[Edge, int], names: dict[int, str]) -> dict[int
     first, second = names
     between = f"between {names[first]} and {second}"
     edges = list(cut.edges(list(owners)))
-    if len(set(edges)) < len(edges) or not is_planar({(min(edge), max(edge)) for edge in edges}, cut.moved):
-        raise NotDone(f"the line crosses itself {between}, or parts them too narrowly for the grid")
+    fault = fault_of(edges, cut.moved)
+    if fault is not None:
+        raise NotDone(f"the line crosses itself {between}, or parts them too narrowly for the grid, at {{}}", fault)
     whose = {piece: owner for edge, owner in owners.items() for piece in pairs(cut.stops(edge))}
     left = set(cut.across)
     whose.update({edge: first for edge in left} | {(b, a): second for a, b in left})
@@ -166,7 +167,8 @@ def _parts(cut: Cut, owners: dict[Edge, int], names: dict[int, str]) -> dict[int
         beside = [edge for edge in around if edge in left or edge[::-1] in left]
         found = {whose[edge] for edge in beside or around}
         if len(found) > 1:
-            raise NotDone(f"the line does not part what lies {between}: it leads to no border at {{}}", _loose(cut, around))
+            corners = {a for a, _ in around}
+            raise NotDone(f"the line does not part what lies {between}: it leads to no border at {{}}", loose_end(cut, corners) or min(corners))
         parts[found.pop()].append(part)
     for feature, polygons in parts.items():
         if not polygons:
@@ -178,14 +180,6 @@ def _edges(part: Polygon) -> Iterator[Edge]:
     """The edges of a polygon."""
     for ring in (part.shell, *part.holes):
         yield from zip(ring, [*ring[1:], ring[0]])
-
-
-def _loose(cut: Cut, around: Iterable[Edge]) -> Point:
-    """An end of what was drawn that meets no border, else a corner of what it does not part."""
-    corners = {end for edge in around for end in edge}
-    count = Counter(end for edge in cut.across for end in edge)
-    loose = [point for point, times in count.items() if times == 1 and point not in corners]
-    return min(loose or corners)
 
 
 def _like(before: Shape, polygons: Sequence[Polygon]) -> Shape:

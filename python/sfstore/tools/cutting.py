@@ -3,7 +3,7 @@
 from __future__ import annotations
 
 from bisect import bisect_left, bisect_right
-from collections import defaultdict
+from collections import Counter, defaultdict
 from collections.abc import Iterable, Iterator, Sequence
 from dataclasses import dataclass, field
 from functools import cached_property
@@ -14,7 +14,7 @@ from sfstore.tools.pins import pairs, points_of, shape_of
 from sfstore.tools.places import Place, exact, in_order, is_inside, lies_on, middle, rounded, shared
 from sfstore.tools.rings import Edge, Point, split_at
 
-__all__ = ["Cut", "bent_by", "cut_of", "is_planar", "neighbours_of", "with_corners"]
+__all__ = ["Cut", "bent_by", "cut_of", "fault_of", "loose_end", "neighbours_of", "with_corners"]
 
 
 @dataclass
@@ -135,18 +135,32 @@ def with_corners(line: Flat, cut: Cut) -> Flat:
     return [number for point in found for number in point] if found != points else line
 
 
-def is_planar(edges: Iterable[Edge], moved: Iterable[Edge]) -> bool:
-    """Whether each of some moved edges meets all edges, of which it is one, at common ends alone."""
-    every = [(edge, min(edge[0][1], edge[1][1]), max(edge[0][1], edge[1][1])) for edge in edges]
+def fault_of(edges: Sequence[Edge], moved: Iterable[Edge]) -> Place | None:
+    """A place where edges of parts run along one another or cross, at other points than common ends; none where they do not.
+
+    Of each pair of edges that are looked at, one was moved: those that were not are as they were in the area.
+    """
+    often = next((edge for edge, times in Counter(edges).items() if times > 1), None)
+    if often is not None:
+        return exact(often[0])
+    every = [(edge, min(edge[0][1], edge[1][1]), max(edge[0][1], edge[1][1])) for edge in {(min(edge), max(edge)) for edge in edges}]
     for one in moved:
         (left, _), (right, _) = one
         bottom, top = sorted((one[0][1], one[1][1]))
         for other, low, high in every:
             if other[0][0] > right or other[1][0] < left or low > top or high < bottom or other == one:
                 continue
-            if any(at not in set(map(exact, one)) & set(map(exact, other)) for at in shared(one, other)):
-                return False
-    return True
+            for at in shared(one, other):
+                if at not in set(map(exact, one)) & set(map(exact, other)):
+                    return at
+    return None
+
+
+def loose_end(cut: Cut, corners: Iterable[Point]) -> Point | None:
+    """A point where what lies inside of an area ends, and no border is; ``corners`` are those of its parts."""
+    known = set(corners)
+    count = Counter(end for edge in cut.across for end in edge)
+    return min((point for point, times in count.items() if times == 1 and point not in known), default=None)
 
 
 def _edge(a: Point, b: Point) -> list[Edge]:

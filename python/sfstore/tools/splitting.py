@@ -7,7 +7,7 @@ from functools import partial
 
 from sfstore.editor import Editor
 from sfstore.geometry import Shape, read_wkt, write_wkt
-from sfstore.tools.cutting import bent_by, cut_of, is_planar, neighbours_of, with_corners
+from sfstore.tools.cutting import bent_by, cut_of, fault_of, loose_end, neighbours_of, with_corners
 from sfstore.tools.notdone import NotDone
 from sfstore.tools.pins import pins_of, points_of, shape_of
 from sfstore.tools.rings import doubled, edges_of, polygons_of, written
@@ -43,17 +43,19 @@ def split(store: Editor, layer: str, feature_id: int, line: str, *, beside: Sequ
     if cutter.code != 2:
         raise NotDone("the line is no LINESTRING")
     border = list(edges_of(shape))
-    cut = cut_of(border, points_of(cutter.members[0][0]))
+    points = points_of(cutter.members[0][0])
+    cut = cut_of(border, points)
     layers = list(dict.fromkeys((layer, *beside)))
     neighbours = dict(neighbours_of(store, layers, shape)) if cut.corners else {}
     neighbours.pop((layer, feature_id), None)
     cut.pins = pins_of(store, layers, bent_by([shape, *neighbours.values()], cut))
     edges = list(cut.edges(border))
-    if len(set(edges)) < len(edges) or not is_planar({(min(edge), max(edge)) for edge in edges}, cut.moved):
-        raise NotDone(f"the line crosses itself in {layer} {feature_id}, or parts it too narrowly for the grid")
+    fault = fault_of(edges, cut.moved)
+    if fault is not None:
+        raise NotDone(f"the line crosses itself in {layer} {feature_id}, or parts it too narrowly for the grid, at {{}}", fault)
     parts = sorted(polygons_of(edges), key=lambda part: -doubled(part.shell))
     if len(parts) < 2:
-        raise NotDone(f"the line does not part {layer} {feature_id}")
+        raise NotDone(f"the line does not part {layer} {feature_id}: see {{}}", loose_end(cut, (a for a, _ in edges)) or points[0])
     texts = [write_wkt(Shape(shape.code, written([part]).members)) for part in parts]
     [feature] = store.get(layer, feature_id)
     with store.together() as group:
