@@ -23,11 +23,12 @@ from sfstore.values import spelled
 from sfstore.web.background import Background
 from sfstore.web.batches import LineRefused, batch_of
 from sfstore.web.changed import changed_by, merged
-from sfstore.web.changes import Change, Target, features_of, seen_of
+from sfstore.web.changes import Change, Target, feature_of, features_of, seen_of
+from sfstore.web.drawn import PAGE_COMMANDS, PAGE_TOOLS, Undrawn, drawn_in
 from sfstore.web.editors import Editors
 from sfstore.web.events import Events
 from sfstore.web.history import ENTRIES_MAX, History
-from sfstore.web.keeper import Asked, ChangedMeanwhile, Edit, Keeper, Unavailable
+from sfstore.web.keeper import Asked, ChangedMeanwhile, Edit, Keeper, Overtaken, Unavailable
 from sfstore.web.logins import Logins
 from sfstore.web.mirror import Mirror
 from sfstore.web.pictures import LEVEL_MAX, Picture, Pictures, Tile
@@ -49,6 +50,7 @@ _T = TypeVar("_T")
 OWN = [
     Command("help COMMAND", "tells the commands, or one with an example", "help add"),
     Command("save", "saves the store; the history begins anew", "save"),
+    *PAGE_COMMANDS,
 ]
 """The commands of the page beside those of the program."""
 
@@ -61,6 +63,9 @@ _ROWS_MAX = ELEMENTS_MAX
 _LETTERS_MAX = 4_000_000
 
 _PAGE_LETTERS_MAX = 64
+
+# How often a tool is tried that others' edits have overtaken.
+_DRAWINGS_MAX = 5
 
 # How much of a line others are told.
 _LINE_SHOWN = 1_000
@@ -223,6 +228,8 @@ class Calls:
         """Carries out a line of the console, or a group as one, as the editor who has logged in."""
         given, page = _text(body, "line"), _page(body)
         units = self._units if _is_in_units(body) else None
+        if next(iter(parted(given)), "") in PAGE_TOOLS:
+            return self._draw(editor, body, given)
         try:
             line = units.line(given) if units else given
         except NoPlace as fault:
@@ -250,6 +257,33 @@ class Calls:
     def _edit(self, asked: Asked) -> Body:
         """Has a line carried out that changes something."""
         return _answered(self._changing(asked.editor, lambda: self._keeper.carry_out(asked)))
+
+    def _draw(self, editor: int, body: Body, given: str) -> Body:
+        """Carries out a tool of those who draw maps: the group that it makes of the store as it is, or nothing of it.
+
+        The page says which version it has seen: who has changed since then what the tool changes was there before.
+        """
+        seen, units = _number(body, "seen", 0, 2**53), self._units if _is_in_units(body) else None
+        lines: list[str] = []
+        for _ in range(_DRAWINGS_MAX):
+            try:
+                drawn = self._questions.ask(editor, lambda store: drawn_in(store, self._questions.version, given, units))
+                if not drawn.lines:
+                    return {"text": drawn.said}
+                lines = drawn.lines
+                batch = batch_of(editor, _page(body), lines, [seen if feature_of(line) else None for line in lines])
+                done = self._changing(editor, lambda: self._keeper.carry_out_all(batch, drawn.version))
+                return {"answer": " ".join(["ok", *(answer[3:] for answer in done.answers if answer != "ok")])}
+            except Overtaken:
+                continue
+            except Undrawn as fault:
+                return {"undone": fault.told._asdict()}
+            except LineRefused as refused:
+                return {"refused": self._refusal(refused.refused, lines[refused.at])}
+            except Refused as refused:
+                # Of a group no line is at fault where a rule is broken. Before it is made, a question of the tool is refused.
+                return {"refused": self._refusal(refused, text_of(lines) if refused.rule else refused.line)}
+        raise Unavailable("Others edit all the time just now: try it again. Nothing was done.")
 
     def _batch(self, editor: int, body: Body) -> Body:
         """Carries out lines as a whole: all of them, or none."""
