@@ -9,7 +9,7 @@ from typing import NamedTuple
 
 from sfstore.editor import Editor
 from sfstore.geometry import Shape, read_wkt, write_wkt
-from sfstore.tools.cutting import Cut, bent_by, cut_of, fault_of, loose_end, neighbours_of, with_corners
+from sfstore.tools.cutting import Cut, bent_by, check_parted, cut_of, loose_end, neighbours_of, with_corners
 from sfstore.tools.merging import area_of, check_apart
 from sfstore.tools.notdone import NotDone
 from sfstore.tools.pins import pairs, pins_of, points_of
@@ -66,7 +66,7 @@ def border(store: Editor, layer: str, first: int, second: int, line: str, *, bes
     for feature in shapes:
         others.pop((layer, feature), None)
     cut.pins = pins_of(store, layers, bent_by([*shapes.values(), *others.values()], cut))
-    parts = _parts(cut, owners, {first: f"{layer} {first}", second: f"{layer} {second}"})
+    parts = _parts(cut, points, owners, {first: f"{layer} {first}", second: f"{layer} {second}"})
     changed = {(layer, feature): _like(shapes[feature], parts[feature]) for feature in shapes}
     changed.update((which, shape.mapped(partial(with_corners, cut=cut))) for which, shape in others.items())
     changed = {which: shape for which, shape in changed.items() if which[1] in shapes and which[0] == layer or shape != others[which]}
@@ -150,14 +150,12 @@ def _square(a: Point, b: Point) -> int:
     return (a[0] - b[0]) ** 2 + (a[1] - b[1]) ** 2
 
 
-def _parts(cut: Cut, owners: dict[Edge, int], names: dict[int, str]) -> dict[int, list[Polygon]]:
+def _parts(cut: Cut, line: Sequence[Point], owners: dict[Edge, int], names: dict[int, str]) -> dict[int, list[Polygon]]:
     """What each of two areas has, once a line has parted what they cover: the first one what lies left of it."""
     first, second = names
     between = f"between {names[first]} and {second}"
     edges = list(cut.edges(list(owners)))
-    fault = fault_of(edges, cut.moved)
-    if fault is not None:
-        raise NotDone(f"the line crosses itself {between}, or parts them too narrowly for the grid, at {{}}", fault)
+    check_parted(cut, edges, line, list(owners), f"{names[first]} and {second}")
     whose = {piece: owner for edge, owner in owners.items() for piece in pairs(cut.stops(edge))}
     left = set(cut.across)
     whose.update({edge: first for edge in left} | {(b, a): second for a, b in left})

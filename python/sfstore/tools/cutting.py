@@ -7,14 +7,16 @@ from collections import Counter, defaultdict
 from collections.abc import Iterable, Iterator, Sequence
 from dataclasses import dataclass, field
 from functools import cached_property
+from itertools import combinations
 
 from sfstore.editor import Editor
 from sfstore.geometry import Flat, Shape, write_wkt
+from sfstore.tools.notdone import NotDone
 from sfstore.tools.pins import pairs, points_of, shape_of
 from sfstore.tools.places import Place, exact, in_order, is_inside, lies_on, middle, rounded, shared
 from sfstore.tools.rings import Edge, Point, split_at
 
-__all__ = ["Cut", "bent_by", "cut_of", "fault_of", "loose_end", "neighbours_of", "with_corners"]
+__all__ = ["Cut", "bent_by", "check_parted", "cut_of", "loose_end", "neighbours_of", "with_corners"]
 
 
 @dataclass
@@ -135,24 +137,46 @@ def with_corners(line: Flat, cut: Cut) -> Flat:
     return [number for point in found for number in point] if found != points else line
 
 
-def fault_of(edges: Sequence[Edge], moved: Iterable[Edge]) -> Place | None:
-    """A place where edges of parts run along one another or cross, at other points than common ends; none where they do not.
+def check_parted(cut: Cut, edges: Sequence[Edge], line: Sequence[Point], border: Sequence[Edge], what: str) -> None:
+    """`NotDone` with a place where the edges of parts run along one another, or cross, at other points than common ends."""
+    narrow = _twice(edges) or _meeting({(min(edge), max(edge)) for edge in edges}, cut.moved)
+    if narrow is None:
+        return
+    crossing = _crossing(line, border)
+    if crossing is not None:
+        raise NotDone(f"the line crosses itself in {what} at {{}}", crossing)
+    raise NotDone(f"the line parts {what} too narrowly for the grid at {{}}", narrow)
 
-    Of each pair of edges that are looked at, one was moved: those that were not are as they were in the area.
-    """
-    often = next((edge for edge, times in Counter(edges).items() if times > 1), None)
-    if often is not None:
-        return exact(often[0])
-    every = [(edge, min(edge[0][1], edge[1][1]), max(edge[0][1], edge[1][1])) for edge in {(min(edge), max(edge)) for edge in edges}]
-    for one in moved:
+
+def _twice(edges: Sequence[Edge]) -> Place | None:
+    """The begin of an edge that is there twice; none where there is none."""
+    return next((exact(edge[0]) for edge, times in Counter(edges).items() if times > 1), None)
+
+
+def _crossing(line: Sequence[Point], border: Sequence[Edge]) -> Place | None:
+    """A place in an area where a line meets itself, but for common corners of it; none where there is none."""
+    pieces = [edge for edge in zip(line, line[1:]) if edge[0] != edge[1]]
+    for one, other in combinations(pieces, 2):
+        common = set(map(exact, one)) & set(map(exact, other))
+        for place in shared(one, other):
+            if place not in common and is_inside(place, border):
+                return place
+    return None
+
+
+def _meeting(edges: Iterable[Edge], moved: Iterable[Edge]) -> Place | None:
+    """A place where one of some moved edges meets another edge, of which it is one, but for common ends; none where there is none."""
+    every = [(edge, min(edge[0][1], edge[1][1]), max(edge[0][1], edge[1][1])) for edge in sorted(edges)]
+    for one in sorted(moved):
         (left, _), (right, _) = one
         bottom, top = sorted((one[0][1], one[1][1]))
         for other, low, high in every:
             if other[0][0] > right or other[1][0] < left or low > top or high < bottom or other == one:
                 continue
-            for at in shared(one, other):
-                if at not in set(map(exact, one)) & set(map(exact, other)):
-                    return at
+            ends = set(map(exact, one)) & set(map(exact, other))
+            place = next((at for at in shared(one, other) if at not in ends), None)
+            if place is not None:
+                return place
     return None
 
 

@@ -7,7 +7,7 @@ from functools import partial
 
 from sfstore.editor import Editor
 from sfstore.geometry import Shape, read_wkt, write_wkt
-from sfstore.tools.cutting import bent_by, cut_of, fault_of, loose_end, neighbours_of, with_corners
+from sfstore.tools.cutting import bent_by, check_parted, cut_of, loose_end, neighbours_of, with_corners
 from sfstore.tools.notdone import NotDone
 from sfstore.tools.pins import pins_of, points_of, shape_of
 from sfstore.tools.rings import doubled, edges_of, polygons_of, written
@@ -50,9 +50,7 @@ def split(store: Editor, layer: str, feature_id: int, line: str, *, beside: Sequ
     neighbours.pop((layer, feature_id), None)
     cut.pins = pins_of(store, layers, bent_by([shape, *neighbours.values()], cut))
     edges = list(cut.edges(border))
-    fault = fault_of(edges, cut.moved)
-    if fault is not None:
-        raise NotDone(f"the line crosses itself in {layer} {feature_id}, or parts it too narrowly for the grid, at {{}}", fault)
+    check_parted(cut, edges, points, border, f"{layer} {feature_id}")
     parts = sorted(polygons_of(edges), key=lambda part: -doubled(part.shell))
     if len(parts) < 2:
         raise NotDone(f"the line does not part {layer} {feature_id}: see {{}}", loose_end(cut, (a for a, _ in edges)) or points[0])

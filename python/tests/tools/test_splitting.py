@@ -9,7 +9,7 @@ import parcels_model as coverage
 from support import TestCase
 
 from sfstore import Refused
-from sfstore.tools import merge, split
+from sfstore.tools import NotDone, merge, split
 
 SPLITS = 300
 
@@ -110,11 +110,31 @@ class Areas(TestCase):
         self.assertEqual(len(self.store.show("p")), 1)
 
     def test_parts_do_not_overlap(self) -> None:
-        for area, line in (
-            ("POLYGON ((1 12, 4 6, 1 8, 10 1, 12 6, 1 12), (6 8, 4 10, 7 6, 6 8))", "LINESTRING (4 -1, 3 13, 10 1)"),
-            ("POLYGON ((0 0, 10 0, 10 10, 0 10, 0 0))", "LINESTRING (2 -1, 8 5, 2 5, 8 -1)"),
+        star = "POLYGON ((1 12, 4 6, 1 8, 10 1, 12 6, 1 12), (6 8, 4 10, 7 6, 6 8))"
+        square = "POLYGON ((0 0, 10 0, 10 10, 0 10, 0 0))"
+        crosses, narrow = "the line crosses itself in p", "the line parts p . too narrowly for the grid"
+        for area, line, why, place in (
+            (square, "LINESTRING (2 -1, 8 5, 2 5, 8 -1)", crosses, "(5 2)"),
+            (square, "LINESTRING (2 -1, 9 5, 2 5, 8 -1)", crosses, "(68/13 23/13)"),
+            # Along itself.
+            (square, "LINESTRING (2 -1, 2 5, 2 2, 12 2)", crosses, "(2 2)"),
         ):
-            self.assertRaisesRegex(ValueError, "crosses itself in p ., or parts it too narrowly", self.parts, area, line)
+            with self.subTest(line=line):
+                with self.assertRaisesRegex(NotDone, f"^{why}") as raised:
+                    self.parts(area, line)
+                self.assertTrue(str(raised.exception).endswith(f" at {place}"), raised.exception)
+        with self.assertRaisesRegex(NotDone, f"^{narrow}") as raised:
+            self.parts(star, "LINESTRING (4 -1, 3 13, 10 1)")
+        [(x, y)] = raised.exception.points
+        self.assertTrue(1 <= x <= 12 and 1 <= y <= 12, raised.exception)
+
+    def test_a_line_that_crosses_itself_outside_parts(self) -> None:
+        square = "POLYGON ((0 0, 10 0, 10 10, 0 10, 0 0))"
+        self.assertEqual(len(self.parts(square, "LINESTRING (20 5, 30 0, 30 5, 20 0, 5 -5, 5 15)")), 2)
+        # So do one that goes back its own way, and one that comes back to a corner of its own.
+        self.assertEqual(len(self.parts(square, "LINESTRING (2 -1, 2 5, 8 5, 2 5, 2 11)")), 2)
+        found = self.parts(square, "LINESTRING (2 -1, 5 5, 8 8, 2 8, 5 5, 11 5)")
+        self.assertEqual((len(found), sum(map(coverage.doubled, found))), (3, 200))
 
     def test_the_polygons_of_a_shapefile(self) -> None:
         """Its layer takes MULTIPOLYGON alone."""
