@@ -66,7 +66,7 @@ class Nearby:
         return [(x, y) for x in range(left, right + 1) for y in range(bottom, top + 1)]
 
 
-def foot(at: Point, edge: Edge) -> Place:
+def foot(at: Point | Place, edge: Edge) -> Place:
     """The place of an edge that is nearest to a point beside it."""
     a, b = map(exact, edge)
     along, across = b[0] - a[0], b[1] - a[1]
