@@ -21,8 +21,9 @@ from sfstore.tools.sending import Which
 
 __all__ = ["Corner", "Fitted", "fitted"]
 
-# How far from an edge a corner lies at most that was computed to lie on it, in steps: as doubles do.
-_NOISE = Fraction(1, 100)
+# The square of how far from an edge a corner lies at most that was put on it and then rounded: half a step in each direction.
+# Who draws may have rounded it before.
+_ROUNDED_SQUARE = Fraction(1, 2)
 # How many words stand before the geometry of a line.
 _FRONTS = {"add": 2, "replace": 3}
 
@@ -48,7 +49,7 @@ class Fitted(NamedTuple):
 def fitted(store: Editor, lines: Sequence[str], corners: Sequence[Corner]) -> Fitted:
     """Lines that add features or replace their geometries, with new corners put into each border of the same layers that they are on.
 
-    A corner that lies on an edge, but for the noise of doubles, goes into it where it was rounded to; and so do the corners of others
+    A corner that lies on an edge, or as near to it as rounding moves a point, goes into it where it was rounded to; and so do the corners of others
     on an edge that is bent by that. So the features fit as before.
 
     >>> from sfstore import Store
@@ -139,14 +140,14 @@ def _feet(shapes: Iterable[Shape], corners: Sequence[Corner]) -> Iterator[tuple[
 
 
 def _is_beside(at: Place, edge: Edge) -> bool:
-    """Whether a place lies on an edge between its ends, but for noise."""
+    """Whether a place lies on an edge between its ends, or as near to it as rounding moves a point."""
     (ax, ay), (bx, by) = edge
     if not (min(ax, bx) - 1 <= at[0] <= max(ax, bx) + 1 and min(ay, by) - 1 <= at[1] <= max(ay, by) + 1):
         return False
     along, across = bx - ax, by - ay
     part, square = (at[0] - ax) * along + (at[1] - ay) * across, along * along + across * across
     side = along * (at[1] - ay) - across * (at[0] - ax)
-    return 0 < part < square and side * side <= _NOISE * _NOISE * square
+    return 0 < part < square and side * side <= _ROUNDED_SQUARE * square
 
 
 def _wkt(line: str) -> str:

@@ -3,10 +3,10 @@
 from __future__ import annotations
 
 from collections import defaultdict
-from collections.abc import Hashable, Iterable, Iterator, Mapping
+from collections.abc import Hashable, Iterable, Mapping
 from typing import Generic, NamedTuple, TypeVar
 
-from sfstore.geometry import Flat, Shape
+from sfstore.geometry import Shape
 from sfstore.tools.nearby import Nearby, Reach, foot
 from sfstore.tools.pins import pairs, points_of
 from sfstore.tools.places import Place, exact, turn

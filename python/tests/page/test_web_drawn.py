@@ -109,6 +109,53 @@ class Drawn(WebCase):
         self.assertIn(f" {corners.pop()}, 0 10", self.shown()[0])
 
 
+class Fitting(WebCase):
+    """Corners that a program names with its batch."""
+
+    LOWER, UPPER = "POLYGON ((0 0, 7 30, -20 30, 0 0))", "POLYGON ((0 0, 30 0, 7 30, 0 0))"
+    LINES = ("replace p 1 POLYGON ((0 0, 2 10, -20 30, 0 0))", "add p POLYGON ((2 10, 7 30, -20 30, 2 10))")
+    CORNER = ("7/3", "10", 2, 10)
+
+    def setUp(self):
+        super().setUp()
+        self.make(f"layer add p polygon\nadd p {self.LOWER}\nadd p {self.UPPER}\nrule add apart never p T******** p\n".encode())
+        self.serving = self.serve()
+        self.ann, self.ben = self.serving.log_in("Ann"), self.serving.log_in("Ben")
+
+    def batch(self, person, lines=LINES, corners=(CORNER,), shown=None, **more):
+        version = person.version()
+        body = {"page": "page", "lines": list(lines), "seen": [version, None][: len(lines)], "corners": list(map(list, corners))}
+        return self.serving.posted("/batch", person.key, **body, shown=version if shown is None else shown, **more)
+
+    def test_they_go_into_what_is_beside(self):
+        status, answer = self.batch(self.ann)
+        self.assertEqual((status, answer["answers"], answer["beside"]), (200, ["ok", "ok 3"], [["p", 2]]))
+        self.assertEqual(self.ann.line("get p 2")["rows"], ["2 POLYGON ((0 0, 30 0, 7 30, 2 10, 0 0))"])
+        self.ann.line("undo")
+        self.assertEqual(self.ann.line("show p")["rows"], [f"1 {self.LOWER}", f"2 {self.UPPER}"])
+        # Without them the half and the neighbour do not fit.
+        self.assertEqual(self.batch(self.ann, corners=())[0], 200)
+
+    def test_who_has_changed_what_is_beside_was_there_before(self):
+        shown = self.ann.version()
+        self.ben.line("vertex insert p 2 0 0 1 15 -3")
+        self.assertEqual(self.batch(self.ann, shown=shown), (409, {"error": "Ben changed p 2 meanwhile: look again."}))
+        self.assertEqual(self.batch(self.ann)[0], 200)
+
+    def test_what_is_refused_names_its_line(self):
+        status, answer = self.batch(self.ann, [self.LINES[0], "add p POLYGON ((2 10, 7 30, 2 10))"])
+        self.assertEqual((answer["refused"]["name"], answer["refused"]["line"]), ("ShortRing", 1))
+        status, answer = self.batch(self.ann, [self.LINES[0], "add p POLYGON ((2 10, 29 1, -20 30, 2 10))"])
+        self.assertEqual(answer["refused"]["name"], "RuleBroken")
+
+    def test_corners_that_are_none(self):
+        for corner in (["7/3", "10", 2], ["x", "10", 2, 10], ["7/0", "10", 2, 10], [2.5, "10", 2, 10], ["7/3", "10", 2.5, 10], ["7/3", "10", 2**40, 10], 7):
+            body = {"page": "page", "lines": list(self.LINES), "seen": [self.ann.version(), None], "corners": [corner], "shown": self.ann.version()}
+            self.assertEqual(self.serving.posted("/batch", self.ann.key, **body)[0], 400, corner)
+        body["corners"] = [list(self.CORNER)] * 2_001
+        self.assertEqual(self.serving.posted("/batch", self.ann.key, **body)[0], 400)
+
+
 class Overtaking(TestCase):
     def test_what_was_made_for_another_version_is_not_carried_out(self):
         with Store(save=self.folder / "w.sfs", program=PROGRAM) as store:

@@ -8,16 +8,14 @@ from __future__ import annotations
 import os
 import random
 from collections.abc import Sequence
-from fractions import Fraction
 
 import parcels_model as coverage
 from support import PROGRAM, TestCase
 
-from sfstore import Refused, Store
+from sfstore import Refused
 from sfstore.faults import fault_at, fault_of
 from sfstore.geometry import read_wkt
 from sfstore.lines import geometry_refused
-from sfstore.results import Feature
 from sfstore.tools import NotDone, merge, move_node, split
 from sfstore.tools.places import Place, exact, is_inside, lies_on, middle, rounded
 from sfstore.tools.rings import Edge, Point, edges_of, split_at

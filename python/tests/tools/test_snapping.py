@@ -10,7 +10,7 @@ from unittest import mock
 import parcels_model as coverage
 from support import TestCase
 
-from sfstore import Refused, Store
+from sfstore import Refused
 from sfstore.geometry import read_wkt, write_wkt
 from sfstore.tools import NotDone, sending, snap, snapping
 
