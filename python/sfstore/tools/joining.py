@@ -70,11 +70,12 @@ def _owners(shapes: Mapping[Key, Shape]) -> dict[Point, set[Key]]:
 
 
 def _targets(whose: Mapping[Point, set[Key]], reach: Reach, apart: bool) -> dict[Point, Point]:
-    """Where nodes are moved: each to the nearest of those that stay, which had more geometries or came before."""
+    """Where nodes are moved: each to the nearest of those that stay. These have more geometries, or more nodes near them, or come first."""
     target: dict[Point, Point] = {}
     taken: dict[Point, set[Key]] = {}
-    stay = Nearby(reach.whole)
-    for node in sorted(whose, key=lambda node: (-len(whose[node]), node)):
+    stay, every = Nearby(reach.whole), Nearby(reach.whole, whose)
+    near = {node: sum(reach.has(node, other) for other in every.around(node, node, reach.whole)) for node in whose}
+    for node in sorted(whose, key=lambda node: (-len(whose[node]), -near[node], node)):
         found = [
             (_square(node, other), other)
             for other in stay.around(node, node, reach.whole)

@@ -42,7 +42,7 @@ class Snapping(NamedTuple):
 def snapping(store: Editor, layers: Sequence[str], within: Distance) -> Snapping:
     """What would be moved if nodes and edges of some layers no farther apart than ``within`` were made one: nothing is done.
 
-    The distance is in grid steps. A node that most features have stays, and those near it are moved there, each once and no
+    The distance is in grid steps. A node that most features have stays, or the one that most others are near; those near it are moved there, each once and no
     farther than that. An edge that passes a node so near is bent there. `NotDone` where nothing would be left of a feature,
     or where its border would run along itself.
 

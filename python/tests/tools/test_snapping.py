@@ -53,7 +53,7 @@ class Near(TestCase):
         self.assertEqual(self.snapped(texts, 1), texts)
         # The square of the distance is 2.
         self.assertEqual(self.snapped(texts, Decimal("1.414")), texts)
-        self.assertEqual(self.snapped(texts, Fraction(1415, 1000))[2], "POINT (10 0)")
+        self.assertEqual(self.snapped(texts, Fraction(1415, 1000)), ["LINESTRING (0 0, 11 1)", "LINESTRING (11 1, 20 0)", "POINT (11 1)"])
 
     def test_a_node_that_more_have_stays(self) -> None:
         texts = ["LINESTRING (0 0, 10 0)", "LINESTRING (11 0, 20 0)", "LINESTRING (11 0, 20 9)"]
