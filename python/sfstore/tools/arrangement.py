@@ -10,7 +10,7 @@ from typing import Generic, TypeVar
 
 from sfstore.tools.pins import pairs
 from sfstore.tools.places import exact, is_inside, rounded, shared
-from sfstore.tools.rings import Edge, Point
+from sfstore.tools.rings import Edge, Point, whole_turn
 
 __all__ = ["Face", "faces_of", "noded"]
 
@@ -39,6 +39,8 @@ class _Cycle(Generic[Key]):
     edges: list[Edge]
     doubled: int
     """Twice the area that it goes round to the left; what is outside of all has none above 0."""
+    box: tuple[int, int, int, int]
+    """Least x and y, greatest x and y."""
     part: int = -1
     """Which of the parts of the borders that hang together it is of."""
     winds: dict[Key, int] = field(default_factory=dict)
@@ -82,12 +84,25 @@ def _stops(edges: Iterable[Edge]) -> dict[Edge, set[Point]]:
     """Where edges meet others between their ends: points of the grid."""
     stops: dict[Edge, set[Point]] = defaultdict(set)
     for one, other in _close(edges):
-        for place in shared(one, other):
+        for place in shared(one, other) if _may_meet(one, other) else ():
             point = rounded(place)
             for edge in (one, other):
                 if point not in edge:
                     stops[edge].add(point)
     return stops
+
+
+def _may_meet(one: Edge, other: Edge) -> bool:
+    """Whether two edges may meet at another place than a common end: in whole numbers, and quickly for most that do not."""
+    (a, b), (c, d) = one, other
+    if a in other or b in other:
+        end, ahead = (a, b) if a in other else (b, a)
+        return whole_turn(end, ahead, d if end == c else c) == 0
+    first, second = whole_turn(c, d, a), whole_turn(c, d, b)
+    if (first > 0 and second > 0) or (first < 0 and second < 0):
+        return False
+    third, fourth = whole_turn(a, b, c), whole_turn(a, b, d)
+    return not ((third > 0 and fourth > 0) or (third < 0 and fourth < 0))
 
 
 def _close(edges: Iterable[Edge]) -> Iterator[tuple[Edge, Edge]]:
@@ -146,7 +161,9 @@ def _cycles(turns: Iterable[Edge]) -> list[_Cycle[Key]]:
             del left[edge]
             edges.append(edge)
             edge = ahead[edge]
-        cycles.append(_Cycle[Key](edges, sum(a[0] * b[1] - a[1] * b[0] for a, b in edges)))
+        xs, ys = zip(*(a for a, _ in edges))
+        box = min(xs), min(ys), max(xs), max(ys)
+        cycles.append(_Cycle[Key](edges, sum(a[0] * b[1] - a[1] * b[0] for a, b in edges), box))
     return cycles
 
 
@@ -231,5 +248,5 @@ def _around(outer: _Cycle[Key], parts: Sequence[Sequence[_Cycle[Key]]]) -> _Cycl
 
 def _has(cycle: _Cycle[Key], point: Point) -> bool:
     """Whether a point lies within a cycle."""
-    xs = [a[0] for a, _ in cycle.edges]
-    return min(xs) < point[0] < max(xs) and is_inside(exact(point), cycle.edges)
+    left, bottom, right, top = cycle.box
+    return left < point[0] < right and bottom < point[1] < top and is_inside(exact(point), cycle.edges)
