@@ -7,7 +7,7 @@ from collections.abc import Callable, Sequence
 
 from sfstore.language import COLUMN_TYPES, COMMANDS, KINDS, MEMBERS, PREDICATES, Command, words_of_line
 
-__all__ = ["COMMANDS", "OWN", "Command", "candidates", "help_text", "near_words"]
+__all__ = ["COMMANDS", "OWN", "TOOLS", "Command", "candidates", "help_text", "near_words"]
 
 
 OWN = [
@@ -20,6 +20,28 @@ OWN = [
     ),
     Command("merge LAYER ID ID", "makes one area of two or more; the first keeps its number and values", "merge parcels 1 2"),
     Command("node X Y to X Y", "moves a corner in all features that have it, as one step", "node 10 10 to 11 12"),
+    Command(
+        "border LAYER ID ID WKT",
+        "gives two areas another border between them, for both; new corners go into the neighbours too",
+        "border parcels 1 2 LINESTRING (10 0, 12 5, 10 10)",
+    ),
+    Command("hole LAYER ID WKT", "cuts a POLYGON out of an area", "hole parcels 1 POLYGON ((3 3, 6 3, 6 6, 3 3))"),
+    Command("fill LAYER ID X Y", "fills the hole of an area at a place, or without one all of its holes", "fill parcels 1 5 4"),
+    Command(
+        "snap LAYER within D",
+        "makes nodes and edges of one or more layers one that are so near; shows them first, and asks",
+        "snap parcels streets within 2",
+    ),
+    Command(
+        "clean LAYER within D",
+        "takes away overlaps and gaps of a coverage that are so narrow; shows them first, and asks",
+        "clean parcels within 2",
+    ),
+    Command(
+        "preview COMMAND",
+        "shows what split, merge, node, border, hole, fill, snap or clean would do, and does nothing",
+        "preview merge parcels 1 2",
+    ),
     Command("picture FILE", "draws the store as SVG, and opens it in a browser", "picture town.svg"),
     Command(
         "import SOURCE",
@@ -34,6 +56,9 @@ OWN = [
     Command("quit", "leaves; asks first where something is not saved", "quit"),
 ]
 """The commands of the console for people alone."""
+
+TOOLS = ("split", "merge", "node", "border", "hole", "fill", "snap", "clean", "preview")
+"""Those of them that draw."""
 
 _WORDS = {
     "KIND": KINDS,

@@ -19,12 +19,14 @@ import tempfile
 import warnings
 import webbrowser
 from collections.abc import Callable, Iterator
+from functools import partial
 from pathlib import Path
 from typing import Protocol
 
 from sfstore import files, sidecar
-from sfstore.commandline import add_version, reason_of, recovered_words, unsaved_question
-from sfstore.commands import candidates, help_text, near_words
+from sfstore.commandline import add_version, recovered_words, unsaved_question
+from sfstore.commands import TOOLS, candidates, help_text, near_words
+from sfstore.drawing import Drawing
 from sfstore.exchange import exporting, importing
 from sfstore.faults import fault_at, fault_of
 from sfstore.groups import size_of, text_of
@@ -36,7 +38,7 @@ from sfstore.mapunits import MapUnits
 from sfstore.refusals import words_of
 from sfstore.store import ProgramEnded, Refused, Store
 from sfstore.storefile import fault_words
-from sfstore.tools import NoSplit, merge, move_node, split
+from sfstore.tools import NotDone
 from sfstore.web.windows import Box, extent_of
 
 __all__ = ["Console", "main"]
@@ -150,13 +152,6 @@ def _is_far(shape: Shape, extent: Box | None) -> bool:
     return min(xs) < left - far or max(xs) > right + far or min(ys) < bottom - far or max(ys) > top + far
 
 
-def _feature(word: str) -> int:
-    """The number of a feature. `ValueError` where a word is none."""
-    if not (word.isascii() and word.isdecimal()):
-        raise ValueError(f"{word} is no number of a feature")
-    return int(word)
-
-
 class _Pending:
     """A group whose members are not all there: nothing of it was sent."""
 
@@ -198,9 +193,7 @@ class Console:
         self._own: dict[str, Callable[[list[str]], None]] = {
             "help": self._help,
             "save": self._save,
-            "split": self._split,
-            "merge": self._merge,
-            "node": self._node,
+            **{tool: partial(self._draw, tool) for tool in TOOLS},
             "picture": self._picture,
             "import": self._import,
             "export": self._export,
@@ -228,8 +221,6 @@ class Console:
             self._take(line)
         except Refused as refused:
             self._tell_refused(refused)
-        except NoSplit as error:
-            print(f"{error.why} at {self._units.point_text(error.at)}" if self._units else error)
         except ValueError as error:
             print(f"That line can't be read: {error}")
         except KeyboardInterrupt:
@@ -414,40 +405,14 @@ class Console:
         self._store.close(save=False)
         self._is_over = True
 
-    def _split(self, words: list[str]) -> None:
-        """Parts a polygon by a line, and tells the numbers of the parts."""
-        if len(words) < 3:
-            raise ValueError("split takes a layer, a number and a LINESTRING")
-        layer, feature, wkt = words[0], _feature(words[1]), " ".join(words[2:])
-        # Of a group that is refused the members are those that the tool made, not those that were typed last.
+    def _draw(self, word: str, words: list[str]) -> None:
+        """Carries out a tool. Of a group that is refused the members are those that the tool made, not those that were typed last."""
         self._members = []
-        parts = split(self._store, layer, feature, self._units.steps(wkt) if self._units else wkt)
-        print(f"ok: {layer} {', '.join(map(str, parts))}")
-
-    def _merge(self, words: list[str]) -> None:
-        """Makes one area of several."""
-        if len(words) < 3:
-            raise ValueError("merge takes a layer and two or more numbers")
-        layer, first, *others = words[0], *map(_feature, words[1:])
-        self._members = []
-        merge(self._store, layer, first, *others)
-        print(f"ok: {layer} {first}")
-
-    def _node(self, words: list[str]) -> None:
-        """Moves a corner in all features that have it."""
-        if len(words) != 5 or words[2] != "to":
-            raise ValueError("node takes x and y, the word `to`, and x and y again")
-        at, to = self._point(*words[:2]), self._point(*words[3:])
-        moved = move_node(self._store, self._layer_names(), at, to)
-        print("ok: " + ", ".join(f"{layer} {feature}" for layer, feature in moved))
-
-    def _point(self, x: str, y: str) -> tuple[int, int]:
-        """A point of the grid that was typed. `ValueError` where it is none."""
-        steps = self._units.steps(f"({x} {y})") if self._units else f"({x} {y})"
-        found = re.fullmatch(r"\((-?[0-9]+) (-?[0-9]+)\)", steps)
-        if found is None:
-            raise ValueError(f"{x} {y} is no point of the grid")
-        return int(found[1]), int(found[2])
+        drawing = Drawing(self._store, self._units, self._show, self._yes)
+        try:
+            drawing.run(word, words)
+        except NotDone as fault:
+            print(f"Not done: {drawing.told(fault)}.")
 
     def _picture(self, words: list[str]) -> None:
         """Draws the store as it is, and opens the picture where there is a browser."""

@@ -5,6 +5,7 @@ from __future__ import annotations
 import html
 import os
 import random
+import re
 import signal
 import time
 import unittest
@@ -12,12 +13,15 @@ from functools import partial
 from unittest import mock
 
 from qgis.core import (
+    Qgis,
     QgsCoordinateReferenceSystem,
     QgsCoordinateTransform,
     QgsFeature,
     QgsFeatureRequest,
     QgsField,
     QgsGeometry,
+    QgsLineString,
+    QgsPoint,
     QgsPointXY,
     QgsProject,
     QgsRectangle,
@@ -347,6 +351,98 @@ class Commits(QgisCase):
         self.assertTrue(parcels.commitChanges(), parcels.commitErrors())
         self.settle()
         self.assert_alike()
+
+
+class Shared(QgisCase):
+    """What QGIS' own tools make of a border that is shared, and is slanted, so that new corners lie off the grid."""
+
+    LOWER = "POLYGON ((20000 0, 20137 0, 20211 101, 20000 101, 20000 0))"
+    UPPER = "POLYGON ((20137 0, 20300 0, 20300 101, 20211 101, 20137 0))"
+    ABOVE = "POLYGON ((20000 101, 20211 101, 20300 101, 20300 200, 20000 200, 20000 101))"
+
+    def setUp(self):
+        super().setUp()
+        lines = [f"add parcels {text}" for text in (self.LOWER, self.UPPER, self.ABOVE)]
+        self.bens(self.ben(), *lines, "rule add apart never parcels T******** parcels")
+        self.settle()
+        self.parcels = self.layer()
+        self.before = self.stored()
+
+    def tearDown(self):
+        QgsProject.instance().setTopologicalEditing(False)
+        super().tearDown()
+
+    def spot(self, x, y):
+        """A place of the map, by steps."""
+        return QgsPointXY(500_000 + x / 10, 5_600_000 + y / 10)
+
+    def halve(self, parcel, line, topological=False):
+        """Has QGIS part a parcel by a line."""
+        QgsProject.instance().setTopologicalEditing(topological)
+        self.parcels.startEditing()
+        self.parcels.selectByExpression(f"_id = {parcel}")
+        self.parcels.beginEditCommand("split")
+        self.parcels.splitFeatures([self.spot(*point) for point in line], topological)
+        self.parcels.endEditCommand()
+
+    def committed(self):
+        """Commits, and gives the texts of the store's parcels that are not as before."""
+        self.assertTrue(self.parcels.commitChanges(), self.parcels.commitErrors())
+        self.settle()
+        self.assert_alike()
+        found = self.stored()
+        return {number: row for number, row in found.items() if row != self.before.get(number)}
+
+    def test_a_split_puts_its_corner_into_the_neighbour(self):
+        for topological in (False, True):
+            self.halve(201, [(19_990, 50), (20_180, 51)], topological)
+            found = self.committed()
+            self.assertEqual(set(found), {201, 202, 204}, topological)
+            corner = next(pair for pair in re.findall(r"20\d+ \d+", found[202]) if pair not in self.before[202])
+            self.assertTrue(all(corner in row for row in found.values()), (topological, found))
+            self.plugin.move("undo")
+            self.settle()
+            self.assertEqual(self.stored(), self.before)
+            self.assert_alike()
+
+    def test_a_border_that_is_reshaped(self):
+        self.parcels.startEditing()
+        geometry = self.feature(201).geometry()
+        bent = QgsLineString([QgsPoint(self.spot(*point)) for point in ((20_160, 20), (20_150, 60), (20_190, 62))])
+        self.assertEqual(geometry.reshapeGeometry(bent), Qgis.GeometryOperationResult.Success)
+        self.parcels.changeGeometry(self.fid(201), geometry)
+        found = self.committed()
+        self.assertEqual(set(found), {201, 202})
+        # What is given away is no parcel's now: the rule keeps overlaps off, and corners are in both.
+        new = set(re.findall(r"20\d+ \d+", found[202])) - set(re.findall(r"20\d+ \d+", self.before[202]))
+        self.assertEqual(len(new), 2)
+        self.assertTrue(all(corner in found[201] for corner in new))
+
+    def test_parts_are_merged_again(self):
+        self.halve(201, [(19_990, 50), (20_180, 51)])
+        self.committed()
+        self.parcels.startEditing()
+        whole = self.feature(201).geometry().combine(self.feature(204).geometry())
+        self.parcels.beginEditCommand("merge")
+        self.parcels.changeGeometry(self.fid(201), whole)
+        self.parcels.deleteFeature(self.fid(204))
+        self.parcels.endEditCommand()
+        found = self.committed()
+        self.assertEqual(set(found), {201, 202})
+
+    def test_a_parcel_that_is_drawn_along_a_border(self):
+        self.bens(self.ben(), "delete parcels 202")
+        self.settle()
+        self.before = self.stored()
+        # Two corners that snapping has put on the slanted border of parcel 201.
+        on_it = [(20_137 + 74 * part, 101 * part) for part in (0.31, 0.77)]
+        points = [self.spot(*point) for point in (*on_it, (20_280, 80), (20_280, 20))]
+        self.parcels.startEditing()
+        self.draw(QgsGeometry.fromPolygonXY([[*points, points[0]]]).asWkt(17))
+        found = self.committed()
+        self.assertEqual(set(found), {201, 204})
+        for x, y in on_it:
+            self.assertTrue(all(f"{round(x)} {round(y)}" in row for row in found.values()), found)
 
 
 class FineGrids(QgisCase):

@@ -15,7 +15,7 @@ from sfstore.web.client import ServerGone
 from .fields import FieldsDiffer, check_layer, names_of
 from .forms import is_form_of_several_open, shown_in_forms
 from .provider import Outcome, Provider
-from .writing import Edits, Line, added_numbers
+from .writing import Edits, Line, added_numbers, corners_of
 
 __all__ = ["Editing", "commit", "prepare"]
 
@@ -183,6 +183,14 @@ class Editing:
             self.provider.check_fields_may_change(self.key)
         return self.provider.lines(edits, self.layer.fields(), self.rounding)
 
+    def corners(self) -> list[list[Any]]:
+        """The new corners of what was not sent: they go into each border that passes there."""
+        mirror, edits = self.provider.mirror, self._edits()
+        fids = [*edits.geometries, *edits.deleted]
+        before = [mirror.memory_feature(mirror.numbers[fid]).geometry() for fid in fids if fid in mirror.numbers]
+        drawn = [*edits.geometries.values(), *(feature.geometry() for feature in edits.added)]
+        return corners_of(mirror.written([]), drawn, before)
+
     def version_of(self, line: Line) -> int | None:
         """The version of the store that the user has seen of what a line edits: a feature, or a column."""
         if line.column is not None:
@@ -223,7 +231,8 @@ def prepare(editings: Sequence[Editing]) -> None:
         parts = [each.lines() for each in editings]
         lines = [line.text for part in parts for line in part]
         seen = [each.version_of(line) for each, part in zip(editings, parts) for line in part]
-        answers = editings[0].session.batch(lines, seen) if lines else []
+        corners = [corner for each in editings for corner in each.corners()]
+        answers = editings[0].session.batch(lines, seen, corners) if lines else []
     except Exception as error:
         for each in editings:
             # Where it was sent, and not answered.

@@ -27,6 +27,8 @@ CALL_SECONDS = 5.0
 # A line of a batch takes some 0.1 milliseconds. A step may be a large batch, and a save writes the whole store.
 _LINE_SECONDS = 0.005
 _LONG_SECONDS = 30.0
+# So many new corners are put into the borders of others.
+CORNERS_MAX = 2_000
 _AGAIN_SECONDS = 0.2
 _STARTING_SECONDS = 30.0
 # How long after a loss the server is tried again at first, and at most: each time it takes twice as long.
@@ -186,13 +188,19 @@ class Session(QObject):
             raise LayerRefused(f"{layer} has geometries of any kind: name one, as by |geometrytype=polygon")
         return Mirror(self, layer, shown, [Column(column["name"], column["type"]) for column in found["columns"]])
 
-    def batch(self, lines: Sequence[str], seen: Sequence[int | None]) -> list[str]:
-        """Has lines carried out as a whole, and gives their answers. `Refusal` where one is refused."""
+    def batch(self, lines: Sequence[str], seen: Sequence[int | None], corners: Sequence[list[Any]] = ()) -> list[str]:
+        """Has lines carried out as a whole, and gives their answers. `Refusal` where one is refused.
+
+        ``corners`` are new ones, which go into each border of others that passes there. Where there are very many, a map was
+        brought in, and none is.
+        """
         seconds = CALL_SECONDS + len(lines) * _LINE_SECONDS
-        answer = self.call("batch", seconds, page=self._token, lines=list(lines), seen=list(seen))
+        fitting = {"corners": list(corners), "shown": self.version} if 0 < len(corners) <= CORNERS_MAX else {}
+        answer = self.call("batch", seconds, page=self._token, lines=list(lines), seen=list(seen), **fitting)
         if "refused" in answer:
             raise Refusal(answer["refused"])
         self._own.add(answer["version"])
+        self._follow_soon(answer.get("beside", []))
         found: list[str] = answer["answers"]
         return found
 
@@ -209,6 +217,17 @@ class Session(QObject):
         if (layer, kind) not in self.mirrors and (layer, kind) not in self._hidden:
             self._hidden.add((layer, kind))
             self.kind_hidden.emit(layer, kind)
+
+    def _follow_soon(self, beside: Sequence[tuple[str, int]]) -> None:
+        """Has mirrors take over features that a batch has changed besides, once what goes on now has ended."""
+
+        def follow() -> None:
+            for (name, _), mirror in list(self.mirrors.items()):
+                with contextlib.suppress(CallFailed, Refusal, ServerGone):
+                    mirror.follow(number for layer, number in beside if layer == name)
+
+        if beside:
+            QTimer.singleShot(0, follow)
 
     def reload_soon(self, mirror: Mirror) -> None:
         """Has a mirror read all anew, once what goes on now has ended."""

@@ -3,7 +3,8 @@
 from __future__ import annotations
 
 import struct
-from collections.abc import Container, Iterable, Mapping, Sequence
+from collections.abc import Container, Iterable, Iterator, Mapping, Sequence
+from fractions import Fraction
 from typing import Any, NamedTuple
 
 from qgis.core import QgsFeature, QgsField, QgsGeometry
@@ -17,7 +18,7 @@ from sfstore.results import Column
 from .fields import IDENTIFIER
 from .values import column_type_of, spelling_of, told
 
-__all__ = ["NOT_GIVEN", "Edits", "Layer", "Line", "NotSent", "added_numbers", "lines_of", "wkt_of"]
+__all__ = ["NOT_GIVEN", "Edits", "Layer", "Line", "NotSent", "added_numbers", "corners_of", "lines_of", "wkt_of"]
 
 NOT_GIVEN = "Autogenerate"
 """What QGIS shows in the field of an identifier that is not given yet."""
@@ -108,6 +109,25 @@ def wkt_of(geometry: QgsGeometry, layer: Layer, rounding: Rounding) -> str:
     if not all(layer.grid.tells_apart(line) for member in shape.members for line in member):
         raise NotSent("the step of the grid is finer than QGIS' doubles are there, and points would move: edit it on the page")
     return write_wkt(steps)
+
+
+def corners_of(layer: Layer, drawn: Iterable[QgsGeometry], before: Iterable[QgsGeometry]) -> list[list[Any]]:
+    """The corners of geometries that others had not before, as a call of the server takes them: where they are, and what they are rounded to."""
+    known = {point for geometry in before for _, point in _points_of(geometry, layer)}
+    found = {point: place for geometry in drawn for place, point in _points_of(geometry, layer) if point not in known}
+    return [[str(place[0]), str(place[1]), *point] for point, place in found.items()]
+
+
+def _points_of(geometry: QgsGeometry, layer: Layer) -> Iterator[tuple[tuple[Fraction, Fraction], tuple[int, int]]]:
+    """The points of a geometry in steps, exactly and as they are rounded. None of one that is not sent."""
+    try:
+        shape = read_wkb(bytes(_fitted(geometry, layer.kind).asWkb()))
+        for member in shape.members:
+            for line in member:
+                places, steps = layer.grid.in_steps(line), layer.grid.steps(line, Rounding())
+                yield from zip(zip(places[::2], places[1::2]), zip(steps[::2], steps[1::2]))
+    except (NotTaken, Outside, OffGrid, ValueError, OverflowError, struct.error):
+        return
 
 
 def _fitted(geometry: QgsGeometry, kind: str) -> QgsGeometry:

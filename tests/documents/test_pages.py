@@ -14,6 +14,7 @@ from pathlib import Path
 
 sys.path.insert(0, str(Path(__file__).resolve().parents[1]))
 
+import tool_pictures  # noqa: E402
 from shown import TOP, Shown  # noqa: E402
 
 sys.path[:0] = [str(TOP / "python"), str(TOP / "tools")]
@@ -95,6 +96,26 @@ class Learned(PageCase):
 
     def test_how_to_split_a_parcel(self):
         self.compare("use/SPLIT_A_PARCEL.md")
+
+    def test_how_to_merge_parcels(self):
+        self.compare("use/MERGE_PARCELS.md")
+
+    def test_how_to_move_a_border(self):
+        self.compare("use/MOVE_A_BORDER.md")
+
+    def test_how_to_cut_a_hole(self):
+        self.compare("use/CUT_A_HOLE.md")
+
+    def test_how_to_snap_what_is_near(self):
+        self.compare("use/SNAP_WHAT_IS_NEAR.md")
+
+    def test_how_to_clean_a_coverage(self):
+        self.compare("use/CLEAN_A_COVERAGE.md")
+
+    def test_the_pictures_of_the_tools_are_what_the_tools_make(self):
+        for picture in tool_pictures.PICTURES:
+            path = DOCS / "use" / f"tool-{picture.name}.svg"
+            self.assertEqual(path.read_text(), tool_pictures.drawn(picture), "run tests/tool_pictures.py --write")
 
     def test_how_to_find_shared_borders(self):
         self.compare("use/SHARED_BORDERS.md")

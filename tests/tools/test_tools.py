@@ -29,6 +29,7 @@ SCRIPTS = [
     "tests/run.py",
     "tests/shown.py",
     "tests/program/test_crate_rows.py",
+    "tests/tool_pictures.py",
     "tests/trust.py",
     "tests/wrong_bodies.py",
     "tools/building.py",

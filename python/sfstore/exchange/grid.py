@@ -116,6 +116,11 @@ class Grid:
             found.append(k)
         return found
 
+    def in_steps(self, places: Sequence[float]) -> list[Fraction]:
+        """The places of doubles in steps, x and y in turn: exact, whether on the grid or not."""
+        origin, step, denominator = self._origin, self._step, self._denominator
+        return [(Fraction(place) * denominator - origin[index & 1]) / step for index, place in enumerate(places)]
+
     def noise(self, place: float, axis: int) -> float:
         """How far a double may be from a step that it is taken for."""
         noise = NOISE_ULPS * math.ulp(max(abs(place), abs(self._near_origin[axis]), self._near_step))

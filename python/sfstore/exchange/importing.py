@@ -14,6 +14,7 @@ import sys
 from collections import Counter
 from collections.abc import Iterable, Iterator
 from dataclasses import dataclass, replace
+from fractions import Fraction
 from functools import partial
 from typing import NamedTuple
 
@@ -21,6 +22,7 @@ from sfstore import sidecar
 from sfstore.commandline import add_version, reason_of
 from sfstore.exchange import ogr, outcome, rulesfile, wayback
 from sfstore.exchange.adding import Broken, add
+from sfstore.exchange.covering import clean_layer, width_of
 from sfstore.exchange.grid import Grid
 from sfstore.exchange.layers import Layer, Source
 from sfstore.exchange.names import Names
@@ -73,6 +75,8 @@ class Wishes:
     """Whether each member of a collection becomes a feature."""
     mends: bool = False
     """Whether geometries that the program refuses are mended."""
+    width: Fraction | None = None
+    """How narrow overlaps and gaps of areas are that are taken away, in units of the source; none where all stay."""
     is_same_map: bool = False
     """Whether the side-car is that of the store, though a program has saved the store without it."""
 
@@ -157,6 +161,8 @@ def bring_in(wishes: Wishes) -> Result:
             raise ogr.ExchangeError("the grid is missing: say --grid OX OY STEP, or ask with --suggest")
         crs, layers = _of_one_crs(_chosen_layers(sources, wishes.layers, left), report)
         contents, readings = _read_layers(wishes, layers, grid, left, report)
+        if wishes.width is not None:
+            contents = [clean_layer(*each, grid, wishes.width, report) for each in zip(contents, readings)]
     found = Sidecar(grid.words, crs, [reading.origin() for reading in readings])
     all_rules = left.rules + rules
     rulings = publish(wishes.target, contents, found, wishes.program, wishes.overwrite, all_rules, sources)
@@ -428,6 +434,13 @@ def _of_one_crs(
     return crs, taken
 
 
+class _OneScreen(argparse.HelpFormatter):
+    """Writes the help without a blank line at its end, so that it fits on a screen."""
+
+    def format_help(self) -> str:
+        return super().format_help().replace("\n\nStatus", "\nStatus")
+
+
 def parser() -> argparse.ArgumentParser:
     """The words of the command."""
     wanted = argparse.ArgumentParser(
@@ -436,6 +449,7 @@ def parser() -> argparse.ArgumentParser:
         epilog="Status 0: all was taken; 1: not all; 2: wrong words; "
         f"{outcome.EPILOG} More: man sfstore-import, docs/use/EXCHANGE.md",
         add_help=False,
+        formatter_class=_OneScreen,
     )
     # What it does is the options' heading: so all fits on a screen.
     options = wanted.add_argument_group("Makes the store's FILE of PG:dbname=.., or of a .gpkg, .geojson, .fgb or .shp")
@@ -451,6 +465,7 @@ def parser() -> argparse.ArgumentParser:
     options.add_argument("--as-text", action="store_true", help="keep columns of other types as texts")
     options.add_argument("--part-collections", action="store_true", help="make a feature of each member of a collection")
     options.add_argument("--mend", action="store_true", help="mend geometries that are refused, and report each")
+    options.add_argument("--clean", type=width_of, metavar="D", help="take away narrower overlaps and gaps, and report each")
     options.add_argument(
         "--layer", action="append", default=[], metavar="NAME", help="a layer of the source; repeated, in drawing order"
     )
@@ -501,6 +516,8 @@ def main(words: list[str] | None = None) -> int:
         wanted.error("--same-map goes with --add")
     if asked.rules and asked.add:
         wanted.error("--rules goes with a new store, and not with --add")
+    if asked.clean is not None and asked.add:
+        wanted.error("--clean goes with a new store, and not with --add: the console has `clean LAYER within D`")
     _check_files(wanted, asked)
     return outcome.ended("sfstore-import", lambda: _bring_in(asked, grid), asked.file)
 
@@ -542,6 +559,7 @@ def _bring_in(asked: argparse.Namespace, grid: Grid | None) -> int:
         asked.rules,
         asked.part_collections,
         asked.mend,
+        asked.clean,
         asked.same_map,
     )
     report, crs, said, fault = add_in(wishes) if asked.add else bring_in(wishes)

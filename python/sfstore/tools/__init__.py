@@ -3,8 +3,13 @@
 So no tool can break a map: where the program refuses the group, nothing has changed.
 """
 
+from sfstore.tools.borders import border
+from sfstore.tools.cleaning import clean, cleaning
+from sfstore.tools.holes import fill, hole
 from sfstore.tools.merging import merge
 from sfstore.tools.nodes import move_node
-from sfstore.tools.splitting import NoSplit, split
+from sfstore.tools.notdone import NotDone
+from sfstore.tools.snapping import snap, snapping
+from sfstore.tools.splitting import split
 
-__all__ = ["NoSplit", "merge", "move_node", "split"]
+__all__ = ["NotDone", "border", "clean", "cleaning", "fill", "hole", "merge", "move_node", "snap", "snapping", "split"]

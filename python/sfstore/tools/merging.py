@@ -5,19 +5,21 @@ from __future__ import annotations
 from collections.abc import Sequence
 
 from sfstore.editor import Editor
-from sfstore.geometry import Shape, read_wkb, write_wkt
+from sfstore.geometry import Shape, write_wkt
+from sfstore.tools.notdone import NotDone
+from sfstore.tools.pins import shape_of
 from sfstore.tools.rings import Edge, edges_of, polygons_of, split_at, written
 
-__all__ = ["merge"]
+__all__ = ["area_of", "check_apart", "merge"]
 
-AREAS = (3, 6)
+_AREAS = (3, 6)
 
 
 def merge(store: Editor, layer: str, *feature_ids: int) -> None:
     """Makes one feature of two or more areas of a layer, as one step: the first keeps its identifier and its values.
 
     What they share of their borders is gone. Areas that share no border become a MULTIPOLYGON, if the layer takes one. All
-    their vertices stay, so that neighbours fit as before. `ValueError` where one of them is no area, or two overlap;
+    their vertices stay, so that neighbours fit as before. `NotDone` where one of them is no area, or two overlap;
     `Refused` where the program refuses the group, and nothing has changed.
 
     >>> from sfstore import Store
@@ -29,12 +31,9 @@ def merge(store: Editor, layer: str, *feature_ids: int) -> None:
     [Feature(id=1, wkt='POLYGON ((0 0, 10 0, 20 0, 20 10, 10 5, 10 10, 0 10, 0 0))', values={})]
     """
     if len(feature_ids) < 2 or len(set(feature_ids)) < len(feature_ids):
-        raise ValueError("a merge takes two or more features, each once")
-    shapes = [read_wkb(bytes.fromhex(store.hex(layer, feature))) for feature in feature_ids]
-    for feature, shape in zip(feature_ids, shapes):
-        if shape.code not in AREAS:
-            raise ValueError(f"{layer} {feature} is no area")
-    _check_apart(store, layer, feature_ids, shapes)
+        raise NotDone("a merge takes two or more features, each once")
+    shapes = [area_of(store, layer, feature) for feature in feature_ids]
+    check_apart(store, layer, feature_ids, shapes)
     whole = written(polygons_of(_outer(shapes)))
     if any(each.name == layer and each.kind == "multipolygon" for each in store.layers()):
         whole = Shape(6, whole.members)
@@ -44,13 +43,21 @@ def merge(store: Editor, layer: str, *feature_ids: int) -> None:
             group.delete(layer, feature)
 
 
-def _check_apart(store: Editor, layer: str, feature_ids: Sequence[int], shapes: Sequence[Shape]) -> None:
-    """`ValueError` where two of the features have inner points in common."""
+def area_of(store: Editor, layer: str, feature: int) -> Shape:
+    """The geometry of a feature. `NotDone` where it is no area."""
+    shape = shape_of(store, layer, feature)
+    if shape.code not in _AREAS:
+        raise NotDone(f"{layer} {feature} is no area")
+    return shape
+
+
+def check_apart(store: Editor, layer: str, feature_ids: Sequence[int], shapes: Sequence[Shape]) -> None:
+    """`NotDone` where two of the features have inner points in common."""
     wanted = set(feature_ids)
     for feature, shape in zip(feature_ids, shapes):
         overlapping = wanted.intersection(store.match(layer, "T********", write_wkt(shape))) - {feature}
         if overlapping:
-            raise ValueError(f"{layer} {feature} and {min(overlapping)} overlap")
+            raise NotDone(f"{layer} {feature} and {min(overlapping)} overlap")
 
 
 def _outer(shapes: Sequence[Shape]) -> list[Edge]:

@@ -7,6 +7,7 @@ from functools import partial
 
 from sfstore.editor import Editor
 from sfstore.geometry import Flat, Shape, write_wkt
+from sfstore.tools.notdone import NotDone
 from sfstore.tools.pins import pairs, pins_of, points_of, shape_of
 from sfstore.tools.rings import Edge, Point, split_at
 
@@ -20,7 +21,7 @@ def move_node(store: Editor, layers: Sequence[str], at: Point, to: Point) -> lis
 
     An area whose border passes through the point between two vertices gets a vertex there, and an edge that the move bends
     keeps the corners of others on it: so neighbours fit as before. A line that passes there stays as it is. The features
-    that are changed, by their layers and identifiers. `ValueError` where none has a vertex there; `Refused` where the program refuses the group, and nothing
+    that are changed, by their layers and identifiers. `NotDone` where none has a vertex there; `Refused` where the program refuses the group, and nothing
     has changed.
 
     >>> from sfstore import Store
@@ -42,7 +43,7 @@ def move_node(store: Editor, layers: Sequence[str], at: Point, to: Point) -> lis
     shapes = {which: shape for which, shape in shapes.items() if shape.code in _AREAS or at in _points(shape)}
     lines = [points_of(line) for shape in shapes.values() for member in shape.members for line in member]
     if not any(at in line for line in lines):
-        raise ValueError(f"no feature has a vertex at {at[0]} {at[1]}")
+        raise NotDone("no feature has a vertex at {}", at)
     bent = {(min(edge), max(edge)) for line in lines for edge in pairs(line) if _is_on(at, edge)}
     stops = {at, *pins_of(store, layers, bent)}
     changed = {which: moved for which, shape in shapes.items() if (moved := shape.mapped(partial(_moved, at=at, to=to, stops=stops))) != shape}

@@ -9,7 +9,7 @@ from typing import NamedTuple
 
 from sfstore.geometry import Flat, Shape
 
-__all__ = ["Edge", "Point", "Polygon", "edges_of", "polygons_of", "split_at", "written"]
+__all__ = ["Edge", "Point", "Polygon", "doubled", "edges_of", "polygons_of", "split_at", "whole_turn", "written"]
 
 Point = tuple[int, int]
 Edge = tuple[Point, Point]
@@ -30,7 +30,7 @@ def edges_of(shape: Shape) -> Iterator[Edge]:
         for place, line in enumerate(member):
             ring = _ring(line)
             # A shell goes round to the left, and a hole to the right.
-            if (_doubled(ring) > 0) == (place > 0):
+            if (doubled(ring) > 0) == (place > 0):
                 ring.reverse()
             yield from zip(ring, [*ring[1:], ring[0]])
 
@@ -52,12 +52,12 @@ def polygons_of(edges: Iterable[Edge]) -> list[Polygon]:
     `ValueError` where they are the edges of no area.
     """
     rings = [ring for walk in _walks(edges) for ring in _simple(walk)]
-    shells = [Polygon(ring, []) for ring in rings if _doubled(ring) > 0]
-    for hole in (ring for ring in rings if _doubled(ring) < 0):
+    shells = [Polygon(ring, []) for ring in rings if doubled(ring) > 0]
+    for hole in (ring for ring in rings if doubled(ring) < 0):
         around = [shell for shell in shells if _is_in(hole, shell.shell)]
         if not around:
             raise ValueError("a hole lies in no shell")
-        min(around, key=lambda polygon: _doubled(polygon.shell)).holes.append(hole)
+        min(around, key=lambda polygon: doubled(polygon.shell)).holes.append(hole)
     return shells
 
 
@@ -78,12 +78,12 @@ def _line(ring: Ring) -> Flat:
     return [number for point in (*ring, ring[0]) for number in point]
 
 
-def _doubled(ring: Ring) -> int:
+def doubled(ring: Sequence[Point]) -> int:
     """Twice the area of a ring: positive where it goes round to the left."""
     return sum(x * d - y * c for (x, y), (c, d) in zip(ring, [*ring[1:], ring[0]]))
 
 
-def _turn(a: Point, b: Point, c: Point) -> int:
+def whole_turn(a: Point, b: Point, c: Point) -> int:
     """Positive where c is left of the line from a to b, and 0 where it is on it."""
     return (b[0] - a[0]) * (c[1] - a[1]) - (b[1] - a[1]) * (c[0] - a[0])
 
@@ -97,7 +97,7 @@ def _between(by_x: list[Point], columns: list[int], a: Point, b: Point) -> list[
 def _lies_within(point: Point, a: Point, b: Point) -> bool:
     """Whether a point lies on an edge, and is none of its ends."""
     low, high = sorted((a[1], b[1]))
-    return low <= point[1] <= high and point not in (a, b) and _turn(a, b, point) == 0
+    return low <= point[1] <= high and point not in (a, b) and whole_turn(a, b, point) == 0
 
 
 def _walks(edges: Iterable[Edge]) -> Iterator[Ring]:
@@ -137,11 +137,11 @@ def _leftmost(before: Point, at: Point, ways: Sequence[Point]) -> Point:
 
 def _is_further_left(before: Point, at: Point, way: Point, other: Point) -> bool:
     """Whether a way on turns further to the left than another one. None of them goes back."""
-    side, other_side = _turn(before, at, way), _turn(before, at, other)
+    side, other_side = whole_turn(before, at, way), whole_turn(before, at, other)
     if (side > 0) != (other_side > 0):
         return side > 0
     if side > 0 or (side < 0 and other_side < 0):
-        return _turn(at, other, way) > 0
+        return whole_turn(at, other, way) > 0
     # One of them goes straight on, and the other one to the right.
     return other_side < 0
 

@@ -4,9 +4,11 @@ from __future__ import annotations
 
 import contextlib
 import os
+import re
 import time
 from base64 import b64encode
 from collections.abc import Callable, Sequence
+from fractions import Fraction
 from typing import Any, TypeVar
 
 from sfstore import sidecar, spelling
@@ -21,15 +23,17 @@ from sfstore.lines import geometry_refused
 from sfstore.mapunits import MapUnits, NoPlace
 from sfstore.refusals import words_of
 from sfstore.store import Answer, Refused, Store, Value
+from sfstore.tools.fitting import Corner, fitted
 from sfstore.values import spelled
 from sfstore.web.background import Background
-from sfstore.web.batches import LineRefused, batch_of
+from sfstore.web.batches import Batch, LineRefused, batch_of
 from sfstore.web.changed import changed_by, merged
-from sfstore.web.changes import Change, Target, features_of, seen_of
+from sfstore.web.changes import Change, Target, feature_of, features_of, seen_of
+from sfstore.web.drawn import PAGE_COMMANDS, PAGE_TOOLS, Undrawn, drawn_in
 from sfstore.web.editors import Editors
 from sfstore.web.events import Events
 from sfstore.web.history import ENTRIES_MAX, History
-from sfstore.web.keeper import Asked, ChangedMeanwhile, Edit, Keeper, Unavailable
+from sfstore.web.keeper import Asked, ChangedMeanwhile, Edit, Keeper, Overtaken, Unavailable
 from sfstore.web.logins import Logins
 from sfstore.web.mirror import Mirror
 from sfstore.web.pictures import LEVEL_MAX, Picture, Pictures, Tile
@@ -51,6 +55,7 @@ _T = TypeVar("_T")
 OWN = [
     Command("help COMMAND", "tells the commands, or one with an example", "help add"),
     Command("save", "saves the store; the history begins anew", "save"),
+    *PAGE_COMMANDS,
 ]
 """The commands of the page beside those of the program."""
 
@@ -63,6 +68,14 @@ _ROWS_MAX = ELEMENTS_MAX
 _LETTERS_MAX = 4_000_000
 
 _PAGE_LETTERS_MAX = 64
+
+# How often a tool is tried that others' edits have overtaken.
+_DRAWINGS_MAX = 5
+
+_OVERTAKEN = "Others edit all the time just now: try it again. Nothing was done."
+
+# How many corners are put into borders beside, and how long the text of a coordinate is.
+_CORNERS_MAX, _CORNER_LETTERS_MAX = 2_000, 200
 
 # How much of a line others are told.
 _LINE_SHOWN = 1_000
@@ -226,6 +239,8 @@ class Calls:
         """Carries out a line of the console, or a group as one, as the editor who has logged in."""
         given, page = _text(body, "line"), _page(body)
         units = self._units if _is_in_units(body) else None
+        if next(iter(parted(given)), "") in PAGE_TOOLS:
+            return self._draw(editor, body, given)
         try:
             line = units.line(given) if units else given
         except NoPlace as fault:
@@ -254,21 +269,70 @@ class Calls:
         """Has a line carried out that changes something."""
         return _answered(self._changing(asked.editor, lambda: self._keeper.carry_out(asked)))
 
+    def _draw(self, editor: int, body: Body, given: str) -> Body:
+        """Carries out a tool of those who draw maps: the group that it makes of the store as it is, or nothing of it.
+
+        The page says which version it has seen: who has changed since then what the tool changes was there before.
+        """
+        seen, units = _number(body, "seen", 0, 2**53), self._units if _is_in_units(body) else None
+        lines: list[str] = []
+        for _ in range(_DRAWINGS_MAX):
+            try:
+                drawn = self._questions.ask(editor, lambda store: drawn_in(store, self._questions.version, given, units))
+                if not drawn.lines:
+                    return {"text": drawn.said}
+                lines = drawn.lines
+                batch = batch_of(editor, _page(body), lines, [seen if feature_of(line) else None for line in lines])
+                done = self._changing(editor, lambda: self._keeper.carry_out_all(batch, drawn.version))
+                return {"answer": " ".join(["ok", *(answer[3:] for answer in done.answers if answer != "ok")])}
+            except Overtaken:
+                continue
+            except Undrawn as fault:
+                return {"undone": fault.told._asdict()}
+            except LineRefused as refused:
+                return {"refused": self._refusal(refused.refused, lines[refused.at])}
+            except Refused as refused:
+                # Of a group no line is at fault where a rule is broken. Before it is made, a question of the tool is refused.
+                return {"refused": self._refusal(refused, text_of(lines) if refused.rule else refused.line)}
+        raise Unavailable(_OVERTAKEN)
+
     def _batch(self, editor: int, body: Body) -> Body:
-        """Carries out lines as a whole: all of them, or none."""
+        """Carries out lines as a whole: all of them, or none.
+
+        With ``corners`` these go into each border that passes there, too: the answers are those of the given lines, and
+        ``beside`` has the features that were changed besides, or otherwise than was given.
+        """
         if _is_in_units(body):
             raise BadCall("a batch counts in steps: only line and feature take units of the map")
         batch = batch_of(editor, _page(body), body.get("lines"), body.get("seen"))
+        lines = batch.lines
         try:
+            if body.get("corners"):
+                return self._fitting(batch, _corners(body["corners"]), _number(body, "shown", 0, 2**53))
             return self._changing(editor, lambda: self._keeper.carry_out_all(batch))._asdict()
         except LineRefused as refused:
-            line = batch.lines[refused.at]
-            return {"refused": {**self._refusal(refused.refused, line), "line": refused.at}}
+            # One beside was sent by nobody: the last line is named, and the words are those of what is beside.
+            line = lines[refused.at] if refused.at < len(lines) else refused.refused.line
+            return {"refused": {**self._refusal(refused.refused, line), "line": min(refused.at, len(lines) - 1)}}
         except Refused as refused:
             if not refused.rule:
                 raise
             # Of a group no line is at fault: a rule is looked at behind the last one.
-            return {"refused": self._refusal(refused, text_of(batch.lines))}
+            return {"refused": self._refusal(refused, text_of(lines))}
+
+    def _fitting(self, batch: Batch, corners: Sequence[Corner], shown: int) -> Body:
+        """Carries out lines with corners put into the borders beside, as these are just then; ``shown`` is what the asker has seen of them."""
+        editor, page, lines, seen = batch
+        for _ in range(_DRAWINGS_MAX):
+            found, version = self._questions.ask(editor, lambda store: (fitted(store, lines, corners), self._questions.version))
+            whole = batch_of(editor, page, found.lines, [*seen, *[shown] * len(found.beside)])
+            try:
+                done = self._changing(editor, lambda: self._keeper.carry_out_all(whole, version))
+            except Overtaken:
+                continue
+            own = [_edited(*each) for each, fit in zip(zip(lines, done.answers), found.lines) if fit != each[0]]
+            return {"answers": done.answers[: len(lines)], "version": done.version, "beside": [*own, *found.beside]}
+        raise Unavailable(_OVERTAKEN)
 
     def _changing(self, editor: int, change: Callable[[], _T]) -> _T:
         """What a change of an editor gives, whose name is kept before it is carried out."""
@@ -507,6 +571,38 @@ def _text(body: Body, name: str) -> str:
     if not isinstance(text, str):
         raise BadCall(f"{name} has to be a text")
     return text
+
+
+def _edited(line: str, answer: str) -> tuple[str, int]:
+    """The feature that a line adds, by its answer, or changes."""
+    target = feature_of(line)
+    return (line.split()[1], int(answer[3:])) if target is None else (target.layer, target.feature or 0)
+
+
+def _corners(given: object) -> list[Corner]:
+    """Corners as a call has them: of each x and y in steps, as texts of fractions, and the two whole numbers that they were rounded to."""
+    if not isinstance(given, list) or len(given) > _CORNERS_MAX:
+        raise BadCall(f"corners has to be a list of {_CORNERS_MAX} at most")
+    return [Corner((_fraction(x), _fraction(y)), (_step(a), _step(b))) for x, y, a, b in map(_four, given)]
+
+
+def _four(given: object) -> tuple[object, object, object, object]:
+    if not isinstance(given, list) or len(given) != 4:
+        raise BadCall("a corner has x and y, and those that they were rounded to")
+    x, y, a, b = given
+    return x, y, a, b
+
+
+def _fraction(given: object) -> Fraction:
+    if not isinstance(given, str) or len(given) > _CORNER_LETTERS_MAX or not re.fullmatch("-?[0-9]+(/[1-9][0-9]*)?", given):
+        raise BadCall("a place of a corner has to be a text, a whole number or a fraction of two")
+    return Fraction(given)
+
+
+def _step(given: object) -> int:
+    if type(given) is not int or not GRID_MIN <= given <= GRID_MAX:
+        raise BadCall(f"a corner lies on the grid, from {GRID_MIN} to {GRID_MAX}")
+    return given
 
 
 def _number(body: Body, name: str, least: int, most: int) -> int:

@@ -19,7 +19,7 @@ from sfstore.web.batchlog import BatchLog, new_mark
 from sfstore.web.changes import Change, Changes, Target, seen_of
 from sfstore.web.steps import LayerChange, Step, Steps
 
-__all__ = ["Asked", "ChangedMeanwhile", "Edit", "Keeper", "Snapshot", "Unavailable"]
+__all__ = ["Asked", "ChangedMeanwhile", "Edit", "Keeper", "Overtaken", "Snapshot", "Unavailable"]
 
 _T = TypeVar("_T")
 
@@ -41,6 +41,10 @@ class ChangedMeanwhile(Exception):
         self.target = target
         self.change = change
         """The change, or none where that is not known any more."""
+
+
+class Overtaken(Exception):
+    """Lines are not carried out, as they were made for a version of the store that is not the newest any more."""
 
 
 class Asked(NamedTuple):
@@ -132,13 +136,20 @@ class Keeper:
         """
         return self._do(lambda store: self._limited(store, 1, lambda: self._carry_out(store, asked)))
 
-    def carry_out_all(self, batch: Batch) -> Done:
+    def carry_out_all(self, batch: Batch, made_for: int | None = None) -> Done:
         """Carries out lines as a whole: all of them, or none. They are one step for undo and redo.
 
-        `LineRefused` where one of them is refused, and `ChangedMeanwhile` as for a line.
+        `LineRefused` where one of them is refused, and `ChangedMeanwhile` as for a line. `Overtaken` where they were made
+        for one version of the store, and somebody has edited anything since.
         """
         count = len(batch.lines)
-        return self._do(lambda store: self._limited(store, count, lambda: self._carry_out_all(store, batch)))
+
+        def job(store: Store) -> Done:
+            if made_for not in (None, self._version):
+                raise Overtaken
+            return self._limited(store, count, lambda: self._carry_out_all(store, batch))
+
+        return self._do(job)
 
     def last_change(self, target: Target) -> Change | None:
         """The last change of a feature. It may be asked by any thread."""
@@ -201,7 +212,7 @@ class Keeper:
         """Does a job. Where it ends the program, the store is opened anew by the next one."""
         try:
             return job(self._opened())
-        except (ChangedMeanwhile, LineRefused, Refused, ValueError):
+        except (ChangedMeanwhile, LineRefused, Overtaken, Refused, ValueError):
             raise
         except (JournalError, ProgramEnded, RuntimeError, OSError) as error:
             if self._store is not None and not self._is_open(self._store):

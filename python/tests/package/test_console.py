@@ -256,7 +256,7 @@ class InMapUnits(TestCase):
             "ok: w 2, w 3\n",
             "2 POLYGON ((500000.00 5600000.00, 500011.00 5599999.50, 500000.00 5600010.00, 500000.00 5600000.00))",
             "3 POLYGON ((500011.00 5599999.50, 500010.00 5600010.00, 500000.00 5600010.00, 500011.00 5599999.50))",
-            "no feature has a vertex at 1000 0",
+            "no feature has a vertex at (500010.00 5600000.00)",
             "node takes x and y, the word `to`, and x and y again",
             "x y is no point of the grid",
             "3 POLYGON ((500010.00 5600000.00, 500010.00 5600010.00, 500000.00 5600010.00, 500010.00 5600000.00))",
@@ -301,14 +301,74 @@ class InMapUnits(TestCase):
         for words in (
             "ok: w 2, 3\n",
             "2 POLYGON ((500000.00 5600000.00, 500005.00 5600005.00, 500000.00 5600010.00, 500000.00 5600000.00))",
-            "That line can't be read: the line does not part w 2",
-            "the line crosses itself in w 2 at (~500002.11111 5600003.00)\n",
+            "Not done: the line does not part w 2: see (500001.00 5600000.00).",
+            "Not done: the line crosses itself in w 2 at (~500002.11111 5600003.00).\n",
             "split takes a layer, a number and a LINESTRING",
             "x 500000.005 lies between two places of the grid",
             "ok: w 2\n2 50\n1 row",
             "merge takes a layer and two or more numbers",
             "x is no number of a feature",
             "Refused (21 NoFeature)",
+        ):
+            self.assertIn(words, said)
+
+    def test_a_border_is_moved_and_holes_are_cut_and_filled(self):
+        said = self.said(
+            "layer add p any",
+            "add p POLYGON ((500000 5600000, 500010 5600000, 500010 5600010, 500000 5600010, 500000 5600000))",
+            "add p POLYGON ((500010 5600000, 500020 5600000, 500020 5600010, 500010 5600010, 500010 5600000))",
+            "preview border p 1 2 LINESTRING (500010 5600000, 500012 5600005, 500010 5600010)",
+            "area p 1 2",
+            "border p 1 2 LINESTRING (500010 5600000, 500012 5600005, 500010 5600010)",
+            "hole p 1 POLYGON ((500002 5600002, 500003 5600002, 500003 5600003, 500002 5600002))",
+            "area p 1",
+            "fill p 1 500009 5600009",
+            "fill p 1 500002.8 5600002.5",
+            "area p 1",
+            "border p 1 2 LINESTRING (500010 5600000, 500012 5600005)",
+            "border p 1 2",
+            "hole p 1",
+            "fill p",
+        )
+        for words in (
+            "p 1: area 100 of 5 points before, area 110 of 6 points after\n"
+            "p 2: area 100 of 5 points before, area 90 of 6 points after\nNothing was done.\n1 100\n2 100\n2 rows\n",
+            "ok: p 1, p 2\nok: p 1\n1 109.5\n1 row\n",
+            "Not done: (500009.00 5600009.00) lies in no hole of p 1.\nok: 1 hole of p 1\n1 110\n1 row\n",
+            "it leads to no border at (500012.00 5600005.00).",
+            "border takes a layer, two numbers and a LINESTRING",
+            "hole takes a layer, a number and a POLYGON",
+            "fill takes a layer and a number",
+        ):
+            self.assertIn(words, said)
+
+    def test_what_is_near_is_shown_before_it_is_made_one(self):
+        made = (
+            "layer add p any",
+            "add p POLYGON ((500000 5600000, 500010 5600000, 500010 5600010, 500000 5600010, 500000 5600000))",
+            "add p POLYGON ((500010.02 5600000, 500020 5600000, 500020 5600010, 500010 5600010, 500009.9 5600005, 500010.02 5600000))",
+        )
+        told = "(500010.02 5600000.00) to (500010.00 5600000.00): p 2\n"
+        said = self.said(*made, "snap p within 0.05", "n", "preview snap p within 0.05", "snap p within 0.05", "y", "snap p within 0.05", "snap p")
+        self.assertEqual(said.count(told + "1 node would be moved, in 1 feature.\n"), 3)
+        self.assertIn("Nothing was done.\n", said)
+        self.assertIn("ok: 1 feature, 1 step\nNothing is that near.\nThat line can't be read: snap takes layers, the word `within`, and a distance", said)
+
+    def test_overlaps_are_shown_before_they_are_taken_away(self):
+        said = self.said(
+            "layer add p any",
+            "add p POLYGON ((500000 5600000, 500010 5600000, 500010 5600010, 500000 5600010, 500000 5600000))",
+            "add p POLYGON ((500010 5600000, 500020 5600000, 500020 5600010, 500010 5600010, 500009.9 5600005, 500010 5600000))",
+            "clean p within 0.01",
+            "clean p within 0.2",
+            "y",
+            "match p T******** POLYGON ((500009.9 5600005, 500010 5600004, 500010 5600006, 500009.9 5600005))",
+            "clean p within 0.2",
+        )
+        for words in (
+            "overlap of p 1, p 2 at (500009.90 5600005.00), area 0.5: it is wider than that, and stays\n0 features of p would be changed.\n",
+            "overlap of p 1, p 2 at (500009.90 5600005.00), area 0.5: it goes to p 1\np 2 at (500009.90 5600005.00): area 100.5 before, 100 after\n"
+            "1 feature of p would be changed.\nok: 1 feature, 1 step\n1\n1 row\np has no overlap, no gap, and nothing that near.\n",
         ):
             self.assertIn(words, said)
 

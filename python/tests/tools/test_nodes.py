@@ -65,7 +65,7 @@ class Corners(TestCase):
             store.add("a", "LINESTRING (0 10, 10 0)")
             self.assertEqual(move_node(store, ["a", "b", "c", "a"], (5, 5), (6, 4)), [("a", 1), ("b", 1), ("c", 1)])
             self.assertEqual([store.show(layer)[0].wkt for layer in "abc"], ["LINESTRING (0 0, 6 4, 9 9)", "POINT (6 4)", "POLYGON ((0 0, 9 0, 9 9, 6 4, 0 0))"])
-            self.assertRaisesRegex(ValueError, "no feature has a vertex at 5 5", move_node, store, ["a", "b", "c"], (5, 5), (6, 4))
+            self.assertRaisesRegex(ValueError, "no feature has a vertex at .5 5.", move_node, store, ["a", "b", "c"], (5, 5), (6, 4))
             self.assertRaises(Refused, move_node, store, ["c"], (0, 0), (9, 9))
             store.undo()
             self.assertEqual(store.show("b")[0].wkt, "POINT (5 5)")

@@ -9,7 +9,7 @@ import parcels_model as coverage
 from support import TestCase
 
 from sfstore import Refused
-from sfstore.tools import NoSplit, merge, split
+from sfstore.tools import NotDone, merge, split
 
 SPLITS = 300
 
@@ -120,12 +120,12 @@ class Areas(TestCase):
             (square, "LINESTRING (2 -1, 2 5, 2 2, 12 2)", crosses, "(2 2)"),
         ):
             with self.subTest(line=line):
-                with self.assertRaisesRegex(NoSplit, f"^{why}") as raised:
+                with self.assertRaisesRegex(NotDone, f"^{why}") as raised:
                     self.parts(area, line)
                 self.assertTrue(str(raised.exception).endswith(f" at {place}"), raised.exception)
-        with self.assertRaisesRegex(NoSplit, f"^{narrow}") as raised:
+        with self.assertRaisesRegex(NotDone, f"^{narrow}") as raised:
             self.parts(star, "LINESTRING (4 -1, 3 13, 10 1)")
-        x, y = raised.exception.at
+        [(x, y)] = raised.exception.points
         self.assertTrue(1 <= x <= 12 and 1 <= y <= 12, raised.exception)
 
     def test_a_line_that_crosses_itself_outside_parts(self) -> None:

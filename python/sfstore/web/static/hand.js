@@ -7,8 +7,8 @@ import { onGrid, rectangle, wktOf } from "./geometry.js";
 const REACH_PIXELS = 8;
 const SNAP_PIXELS = 10;
 
-const CODES = { point: 1, line: 2, polygon: 3, "ask-polygon": 3, measure: 2 };
-const LEAST_POINTS = { point: 1, line: 2, polygon: 3, "ask-polygon": 3, measure: 2 };
+const CODES = { point: 1, line: 2, polygon: 3, "ask-polygon": 3, measure: 2, split: 2, border: 2, hole: 3 };
+const LEAST_POINTS = { point: 1, line: 2, polygon: 3, "ask-polygon": 3, measure: 2, split: 2, border: 2, hole: 3 };
 
 export class Hand {
   constructor(app) {
@@ -28,6 +28,7 @@ export class Hand {
     this.giveUp();
     for (const button of this.#buttons()) button.setAttribute("aria-pressed", String(button.dataset.tool === tool));
     this.app.view.svg.dataset.tool = tool;
+    if (this.app.drawing.has(tool)) this.app.drawing.begin(tool);
   }
 
   /** Offers the layers that take what can be drawn. */
@@ -86,6 +87,7 @@ export class Hand {
   }
 
   hover(event, place) {
+    this.app.drawing.hover(this.#meant(event, place));
     if (!this.points.length) return;
     this.#sketch(this.#meant(event, place));
   }
@@ -98,7 +100,15 @@ export class Hand {
       return;
     }
     if (this.tool === "ask-box") return;
+    if (this.app.drawing.has(this.tool) && !this.points.length && this.#isTaken(event, place)) return;
     this.#add(this.#meant(event, place));
+  }
+
+  /** Whether a click was for a tool that takes features, or places that are no points of a line. */
+  #isTaken(event, pixel) {
+    const { drawing, map, view } = this.app;
+    const [x, y] = view.toPlane(...pixel);
+    return drawing.click(this.tool, [x, y], this.#meant(event, pixel), map.pick(x, y, REACH_PIXELS / view.scale));
   }
 
   #add(point) {
@@ -132,6 +142,7 @@ export class Hand {
       this.app.asking.askAbout(wktOf("polygon", points, this.app.place.units), ring(points));
       return;
     }
+    if (this.app.drawing.has(this.tool)) return this.app.drawing.finish(this.tool, points);
     const layer = this.app.map.layer(byId("target").value);
     if (!layer) return this.#missLayer(wktOf(this.tool, points, this.app.place.units));
     this.app.draw(layer.name, wktOf(this.tool, points, this.app.place.units, layer.kind.startsWith("multi")));
@@ -152,6 +163,7 @@ export class Hand {
 
   giveUp() {
     this.points = [];
+    this.app.drawing.from = null;
     this.app.overlay.show("sketch", null);
   }
 }

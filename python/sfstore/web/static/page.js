@@ -3,6 +3,7 @@
 import { Asking } from "./asking.js";
 import { Background } from "./background.js";
 import { byId, counted, element, sure } from "./dom.js";
+import { Drawing } from "./drawing.js";
 import { boxOf, isWithin } from "./geometry.js";
 import { Hand } from "./hand.js";
 import { HistoryList } from "./history.js";
@@ -65,6 +66,7 @@ class App {
     this.history = new HistoryList(this);
     this.sheet = new Sheet(this);
     this.layerEditor = new LayerEditor(this);
+    this.drawing = new Drawing(this);
     this.hand = new Hand(this);
     this.log = new Log((line, seen) => this.run(line, { seen }), () => this.version);
     followPointers(svg, this.view, this.hand);
@@ -139,6 +141,7 @@ class App {
     }
     this.log.addAnswer(shown, answer);
     if (answer.refused) this.#tellRefused(answer.refused);
+    else if (answer.undone) this.#tellUndone(answer.undone);
     else {
       this.#closeRefusal();
       if (answer.rows && /^[ \t]*(query|match|nearest|reach)[ \t]/.test(line)) this.asking.take(line.trim(), answer, isFurther);
@@ -272,6 +275,13 @@ class App {
     if (place) this.#uncover(place.points[0]);
   }
 
+  /** Tells why a tool has made nothing, and shows where. */
+  #tellUndone({ words, points }) {
+    this.#showWords("Not done, and nothing has changed.", { reason: `${words}.` });
+    this.overlay.showRefused(null, points);
+    if (points.length) this.#uncover(points[0]);
+  }
+
   #showWords(title, { reason = "", place = "", help = "" }) {
     const box = byId("refusal");
     box.querySelector("h2").textContent = title;
@@ -381,11 +391,17 @@ class App {
       n: () => this.#step(1),
       p: () => this.#step(-1),
       v: () => selection.focusFirst(),
+      s: () => hand.setTool("split"),
+      m: () => hand.setTool("merge"),
+      b: () => hand.setTool("border"),
+      k: () => hand.setTool("node"),
+      h: () => hand.setTool("hole"),
+      f: () => hand.setTool("fill"),
     };
   }
 
   #escape() {
-    if (this.hand.points.length) this.hand.giveUp();
+    if (this.hand.points.length || this.drawing.from) this.hand.giveUp();
     else if (!byId("refusal").hidden) this.#closeRefusal();
     else this.hand.setTool("select");
   }

@@ -1,0 +1,169 @@
+"""Tests of the tools of those who draw maps at the page's calls: with others who edit meanwhile."""
+
+from __future__ import annotations
+
+import threading
+
+from support import PROGRAM, TestCase
+from web_support import WebCase
+
+from sfstore import Store
+from sfstore.web.batches import Batch
+from sfstore.web.keeper import Keeper, Overtaken
+
+LEFT, RIGHT = "POLYGON ((0 0, 10 0, 10 10, 0 10, 0 0))", "POLYGON ((10 0, 20 0, 20 10, 10 10, 10 0))"
+MOVED = "border p 1 2 LINESTRING (10 0, 12 5, 10 10)"
+
+
+class Drawn(WebCase):
+    def setUp(self):
+        super().setUp()
+        self.make(f"layer add p polygon\ncolumn add p owner text\nadd p {LEFT}\nadd p {RIGHT}\nset p 1 owner 'Dunn'\n".encode())
+        self.serving = self.serve()
+        self.ann, self.ben = self.serving.log_in("Ann"), self.serving.log_in("Ben")
+
+    def shown(self):
+        return self.ann.line("show p")["rows"]
+
+    def test_each_tool_is_one_step(self):
+        before = self.shown()
+        for line, answer, count in (
+            ("split p 1 LINESTRING (4 -1, 5 11)", "ok 3", 3),
+            ("merge p 1 2", "ok", 1),
+            ("node 10 10 to 11 12", "ok", 2),
+            (MOVED, "ok", 2),
+            ("hole p 1 POLYGON ((2 2, 4 2, 4 4, 2 2))", "ok", 2),
+        ):
+            self.assertEqual(self.ann.line(line), {"answer": answer}, line)
+            self.assertEqual(len(self.shown()), count, line)
+            self.assertNotEqual(self.shown(), before)
+            self.ann.line("undo")
+            self.assertEqual(self.shown(), before, line)
+        self.ann.line("hole p 1 POLYGON ((2 2, 8 2, 8 8, 2 2))")
+        self.assertEqual(self.ann.line("fill p 1 5 4"), {"answer": "ok"})
+
+    def test_values_go_along(self):
+        self.ann.line("split p 1 LINESTRING (4 -1, 5 11)")
+        self.assertEqual([row.partition(")) ")[2] for row in self.shown()], ["owner='Dunn'", "", "owner='Dunn'"])
+
+    def test_a_preview_does_nothing(self):
+        before = self.shown()
+        told = self.ann.line(f"preview {MOVED}")["text"]
+        self.assertIn("p 1: area 100 of 5 points before, area 110 of 6 points after", told)
+        self.assertEqual(self.shown(), before)
+
+    def test_what_makes_nothing_says_where(self):
+        told = self.ann.line("border p 1 2 LINESTRING (10 0, 12 5)")["undone"]
+        self.assertEqual(told["points"], [[12.0, 5.0]])
+        self.assertIn("leads to no border at (12 5)", told["words"])
+        self.assertEqual(self.ann.line("merge p 1 9")["refused"]["name"], "NoFeature")
+        self.assertEqual(self.ann.line("split p 1 LINESTRING (4 4, 4 4)")["refused"]["name"], "ShortLine")
+        for line in ("split p", "node 1 2", "merge p 1 x", "preview snap", "preview save"):
+            status, answer = self.ann.posted(line, 2**53 - 1)
+            self.assertEqual(status, 400, line)
+
+    def test_a_rule_that_would_be_broken_is_named(self):
+        self.ann.line("layer add b polygon")
+        self.ann.line("add b POLYGON ((3 3, 6 3, 6 6, 3 6, 3 3))")
+        self.ann.line("rule add housed each b within some p")
+        before = self.shown()
+        refused = self.ann.line("split p 1 LINESTRING (4 -1, 5 11)")["refused"]
+        self.assertEqual((refused["name"], refused["broken"]["features"][0]["id"]), ("RuleBroken", 1))
+        self.assertEqual(self.shown(), before)
+
+    def test_who_was_there_before(self):
+        """Of a feature that a tool changes, and of one beside it that its user has not named."""
+        seen = self.ben.feature("p", 1)["version"]
+        self.ann.line("vertex insert p 2 0 0 1 15 -2")
+        status, answer = self.ben.posted(MOVED, seen)
+        self.assertEqual((status, answer), (409, {"error": "Ann changed p 2 meanwhile: look again."}))
+        self.ann.line("undo")
+        status, _ = self.ben.posted("split p 1 LINESTRING (4 -1, 5 11)", seen)
+        self.assertEqual(status, 200)
+        status, answer = self.ann.posted("node 10 10 to 11 12", seen)
+        self.assertEqual((status, answer), (409, {"error": "Ben changed p 1 meanwhile: look again."}))
+        status, answer = self.serving.posted("/line", self.ben.key, page="page", line=MOVED)
+        self.assertEqual(status, 400)
+
+    def test_coordinates_in_units_of_the_map_without_a_grid_are_steps(self):
+        status, answer = self.serving.posted("/line", self.ann.key, page="page", line=MOVED, seen=self.ann.feature("p", 1)["version"], units="map")
+        self.assertEqual((status, answer), (200, {"answer": "ok"}))
+
+    def test_help_has_them(self):
+        self.assertIn("border LAYER ID ID WKT", self.ann.line("help border")["text"])
+        self.assertIn("split LAYER ID WKT", self.ann.line("help")["text"])
+
+    def test_many_at_once_leave_no_gap(self):
+        """Both move the same corners: each of them in all parcels, or in none."""
+        def moving(person, far):
+            for at in range(10):
+                person.posted(f"node {10 + at % 2 * far} {10 + at % 2} to {10 + (at + 1) % 2 * far} {10 + (at + 1) % 2}", person.feature("p", 1)["version"])
+
+        threads = [threading.Thread(target=moving, args=(person, 1)) for person in (self.ann, self.ben)]
+        for thread in threads:
+            thread.start()
+        for thread in threads:
+            thread.join()
+        corners = {row.split("(10 0, 20 0, 20 10, ")[-1].split(",")[0] for row in self.shown()[1:]}
+        self.assertEqual(len(corners), 1)
+        self.assertIn(f" {corners.pop()}, 0 10", self.shown()[0])
+
+
+class Fitting(WebCase):
+    """Corners that a program names with its batch."""
+
+    LOWER, UPPER = "POLYGON ((0 0, 7 30, -20 30, 0 0))", "POLYGON ((0 0, 30 0, 7 30, 0 0))"
+    LINES = ("replace p 1 POLYGON ((0 0, 2 10, -20 30, 0 0))", "add p POLYGON ((2 10, 7 30, -20 30, 2 10))")
+    CORNER = ("7/3", "10", 2, 10)
+
+    def setUp(self):
+        super().setUp()
+        self.make(f"layer add p polygon\nadd p {self.LOWER}\nadd p {self.UPPER}\nrule add apart never p T******** p\n".encode())
+        self.serving = self.serve()
+        self.ann, self.ben = self.serving.log_in("Ann"), self.serving.log_in("Ben")
+
+    def batch(self, person, lines=LINES, corners=(CORNER,), shown=None, **more):
+        version = person.version()
+        body = {"page": "page", "lines": list(lines), "seen": [version, None][: len(lines)], "corners": list(map(list, corners))}
+        return self.serving.posted("/batch", person.key, **body, shown=version if shown is None else shown, **more)
+
+    def test_they_go_into_what_is_beside(self):
+        status, answer = self.batch(self.ann)
+        self.assertEqual((status, answer["answers"], answer["beside"]), (200, ["ok", "ok 3"], [["p", 2]]))
+        self.assertEqual(self.ann.line("get p 2")["rows"], ["2 POLYGON ((0 0, 30 0, 7 30, 2 10, 0 0))"])
+        self.ann.line("undo")
+        self.assertEqual(self.ann.line("show p")["rows"], [f"1 {self.LOWER}", f"2 {self.UPPER}"])
+        # Without them the half and the neighbour do not fit.
+        self.assertEqual(self.batch(self.ann, corners=())[0], 200)
+
+    def test_who_has_changed_what_is_beside_was_there_before(self):
+        shown = self.ann.version()
+        self.ben.line("vertex insert p 2 0 0 1 15 -3")
+        self.assertEqual(self.batch(self.ann, shown=shown), (409, {"error": "Ben changed p 2 meanwhile: look again."}))
+        self.assertEqual(self.batch(self.ann)[0], 200)
+
+    def test_what_is_refused_names_its_line(self):
+        status, answer = self.batch(self.ann, [self.LINES[0], "add p POLYGON ((2 10, 7 30, 2 10))"])
+        self.assertEqual((answer["refused"]["name"], answer["refused"]["line"]), ("ShortRing", 1))
+        status, answer = self.batch(self.ann, [self.LINES[0], "add p POLYGON ((2 10, 29 1, -20 30, 2 10))"])
+        self.assertEqual(answer["refused"]["name"], "RuleBroken")
+
+    def test_corners_that_are_none(self):
+        for corner in (["7/3", "10", 2], ["x", "10", 2, 10], ["7/0", "10", 2, 10], [2.5, "10", 2, 10], ["7/3", "10", 2.5, 10], ["7/3", "10", 2**40, 10], 7):
+            body = {"page": "page", "lines": list(self.LINES), "seen": [self.ann.version(), None], "corners": [corner], "shown": self.ann.version()}
+            self.assertEqual(self.serving.posted("/batch", self.ann.key, **body)[0], 400, corner)
+        body["corners"] = [list(self.CORNER)] * 2_001
+        self.assertEqual(self.serving.posted("/batch", self.ann.key, **body)[0], 400)
+
+
+class Overtaking(TestCase):
+    def test_what_was_made_for_another_version_is_not_carried_out(self):
+        with Store(save=self.folder / "w.sfs", program=PROGRAM) as store:
+            store.add_layer("w")
+        keeper = Keeper(str(self.folder / "w.sfs"), PROGRAM)
+        self.addCleanup(keeper.close)
+        version = keeper.steps()[0]
+        batch = Batch(1, "page", ["add w POINT (1 1)", "add w POINT (2 2)"], [None, None])
+        keeper.carry_out_all(batch, version)
+        self.assertRaises(Overtaken, keeper.carry_out_all, batch, version)
+        self.assertEqual(keeper.ask(lambda store: len(store.show("w"))), 2)
