@@ -24,7 +24,7 @@ from pathlib import Path
 from typing import Protocol
 
 from sfstore import files, sidecar
-from sfstore.commandline import add_version, recovered_words, unsaved_question
+from sfstore.commandline import add_version, reason_of, recovered_words, unsaved_question
 from sfstore.commands import TOOLS, candidates, help_text, near_words
 from sfstore.drawing import Drawing
 from sfstore.exchange import exporting, importing
