@@ -7,7 +7,7 @@ from typing import NamedTuple
 from sfstore.editor import Editor
 from sfstore.geometry import Shape, read_wkb
 from sfstore.language import words_of_line
-from sfstore.results import Refused, Rule
+from sfstore.results import AnyRule, Refused
 from sfstore.rows import rule_of
 
 __all__ = ["Breaking", "Broken", "broken_by"]
@@ -25,9 +25,10 @@ class Breaking(NamedTuple):
 class Broken(NamedTuple):
     """A rule that would be broken, and by what."""
 
-    rule: Rule
+    rule: AnyRule
     features: tuple[Breaking, ...]
-    """Of a rule with ``never`` one of its first layer and one of its second; else one of its first layer."""
+    """Of a rule with ``never`` one of its first layer and one of its second, of one with ``unique`` two of its layer; else one
+    of its first layer."""
 
 
 def broken_by(refused: Refused, line: str, store: Editor) -> Broken | None:
@@ -35,11 +36,11 @@ def broken_by(refused: Refused, line: str, store: Editor) -> Broken | None:
     rule = next((rule for rule in _rules(line, store) if rule.name == refused.rule), None)
     if rule is None:
         return None
-    places = zip((rule.layer, rule.other), refused.ids)
+    places = zip(rule.layers, refused.ids)
     return Broken(rule, tuple(Breaking(layer, feature, _shape_of(store, layer, feature)) for layer, feature in places))
 
 
-def _rules(line: str, store: Editor) -> list[Rule]:
+def _rules(line: str, store: Editor) -> list[AnyRule]:
     """The rules that stand, and the one that a line would have added."""
     words = words_of_line(line)
     added = [rule_of(" ".join(words[2:]))] if words[:2] == ["rule", "add"] else []

@@ -11,7 +11,7 @@ from sfstore import edits, spelling, values
 from sfstore.group import Group
 from sfstore.language import QUESTIONS, words_of_line
 from sfstore.program import Link, batches
-from sfstore.results import Answer, Column, ColumnType, Distance, Feature, Kind, Layer, Near, Predicate, Refused, Rule, RuleForm, Value
+from sfstore.results import AnyRule, Answer, Column, ColumnType, Demand, Distance, Feature, Kind, Layer, Near, Predicate, Refused, Rule, RuleForm, Value, ValueRule
 from sfstore.rows import feature_of, rule_of
 
 __all__ = ["Editor"]
@@ -642,6 +642,29 @@ class Editor:
         rule = Rule(spelling.name(name), form, spelling.name(layer), spelling.ask(ask), spelling.name(other))
         self.run(f"rule add {rule.line}")
 
+    def add_value_rule(self, name: str, demand: Demand, layer: str, column: str) -> None:
+        """Adds a rule on the values in a column of a layer, where it holds.
+
+        With ``unique`` no two features have the same value there; of features without a value nothing is asked.
+        With ``required`` each feature has a value there: so one is added and given its value as one step, by `add` with
+        values or in a `together`. An edit that would break the rule is refused as with `add_rule`.
+
+        >>> with Store() as store:
+        ...     store.add_layer("parcels", "point")
+        ...     store.add_column("parcels", "number", "text")
+        ...     store.add_value_rule("numbers", "unique", "parcels", "number")
+        ...     store.add("parcels", "POINT (3 4)", {"number": "17/4"})
+        ...     try:
+        ...         store.add("parcels", "POINT (5 6)", {"number": "17/4"})
+        ...     except Refused as refused:
+        ...         refused.rule, refused.ids
+        1
+        ('numbers', [1, 2])
+        """
+        spelling.one_of(Demand, demand)
+        rule = ValueRule(spelling.name(name), demand, spelling.name(layer), spelling.name(column))
+        self.run(f"rule add {rule.line}")
+
     def drop_rule(self, name: str) -> None:
         """Drops a rule.
 
@@ -652,7 +675,7 @@ class Editor:
         """
         self.run(f"rule drop {spelling.name(name)}")
 
-    def rules(self) -> list[Rule]:
+    def rules(self) -> list[AnyRule]:
         """The rules, in the order in which they were added.
 
         >>> with Store() as store:

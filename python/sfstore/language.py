@@ -266,6 +266,18 @@ COMMANDS = [
         "rule add fronted each parcels touches some roads",
         "rules",
     ),
+    Command(
+        "rule add NAME unique LAYER COLUMN",
+        "from now on no two features of the layer have the same value there",
+        "rule add numbers unique parcels number",
+        "rules",
+    ),
+    Command(
+        "rule add NAME required LAYER COLUMN",
+        "from now on each feature of the layer has a value there",
+        "rule add numbered required parcels number",
+        "rules",
+    ),
     Command("rule drop NAME", "drops a rule", "rule drop apart", "rules"),
     Command("rules", "lists the rules", "rules"),
     Command("undo", "takes the last edit back", "undo", "history"),

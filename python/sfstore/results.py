@@ -66,6 +66,8 @@ Predicate = Literal[
 """What may be asked of a feature's geometry and a given one."""
 RuleForm = Literal["never", "each"]
 """What a rule says: that no two features are so, or that each is so with some other one."""
+Demand = Literal["unique", "required"]
+"""What a rule demands of the values in a column: that no two features have the same one, or that each has one."""
 
 PathName = Union[str, "os.PathLike[str]"]
 """The name of a file."""
@@ -154,7 +156,8 @@ class Refused(Exception):
         """The features that would break the rule, by their identifiers.
 
         Of a rule with ``never`` they are two, one of its first layer and one of its second; of a rule with
-        ``each`` it is the one that no other would go with. Where no rule would be broken there are none.
+        ``each`` it is the one that no other would go with. Of ``unique`` they are two that would have the same
+        value; of ``required`` it is the one that would have none. Where no rule would be broken there are none.
 
         >>> Refused(37, "RuleBroken", "add parcels POLYGON ..", "apart 1 3").ids
         [1, 3]
@@ -279,6 +282,38 @@ class Rule(NamedTuple):
         """Its row of ``rules``, and what stands behind ``rule add``."""
         some = ["some"] if self.form == "each" else []
         return " ".join([self.name, self.form, self.layer, self.ask, *some, self.other])
+
+    @property
+    def layers(self) -> tuple[str, str]:
+        """The layers of the features that may break it: of the first, and of the second."""
+        return self.layer, self.other
+
+
+class ValueRule(NamedTuple):
+    """A rule on the values in a column of a layer.
+
+    >>> ValueRule("numbers", "unique", "parcels", "number").line
+    'numbers unique parcels number'
+    """
+
+    name: str
+    demand: Demand
+    layer: str
+    column: str
+
+    @property
+    def line(self) -> str:
+        """Its row of ``rules``, and what stands behind ``rule add``."""
+        return " ".join(self)
+
+    @property
+    def layers(self) -> tuple[str, str]:
+        """The layers of the features that may break it: both are its own."""
+        return self.layer, self.layer
+
+
+AnyRule = Union[Rule, ValueRule]
+"""A rule, of whichever kind."""
 
 
 class Column(NamedTuple):

@@ -4,10 +4,10 @@ from __future__ import annotations
 
 import re
 from collections.abc import Mapping
-from typing import cast
+from typing import cast, get_args
 
 from sfstore import values
-from sfstore.results import ColumnType, Feature, Rule, RuleForm, Value
+from sfstore.results import AnyRule, ColumnType, Demand, Feature, Rule, RuleForm, Value, ValueRule
 
 __all__ = ["feature_of", "row_values", "rule_of"]
 
@@ -23,13 +23,19 @@ def feature_of(row: str, types: Mapping[str, ColumnType]) -> Feature:
     return Feature(int(found[1]), found[2], row_values(row, found.end(), types))
 
 
-def rule_of(row: str) -> Rule:
+def rule_of(row: str) -> AnyRule:
     """The rule of a row of ``rules``.
 
     >>> rule_of("placed each wells within some parcels")
     Rule(name='placed', form='each', layer='wells', ask='within', other='parcels')
+    >>> rule_of("numbers unique parcels number")
+    ValueRule(name='numbers', demand='unique', layer='parcels', column='number')
     """
-    name, form, layer, ask, *_, other = row.split(" ")
+    name, form, layer, *words = row.split(" ")
+    if form in get_args(Demand):
+        (column,) = words
+        return ValueRule(name, cast(Demand, form), layer, column)
+    ask, *_, other = words
     return Rule(name, cast(RuleForm, form), layer, ask, other)
 
 

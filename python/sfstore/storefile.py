@@ -16,7 +16,7 @@ from typing import BinaryIO, NamedTuple, cast, overload
 from sfstore import files, values
 from sfstore.language import PREDICATES
 from sfstore.refusals import BAD_FIELDS
-from sfstore.results import RULE_BROKEN, Rule, RuleForm, Value
+from sfstore.results import RULE_BROKEN, AnyRule, Demand, Rule, RuleForm, Value, ValueRule
 
 __all__ = [
     "BOOL",
@@ -45,6 +45,7 @@ _VERSIONS = {b"SFSTORE1": 1, b"SFSTORE2": 2, b"SFSTORE3": 3, b"SFSTORE4": 4}
 # What the file of each version begins with.
 _ANY_MAGIC = b"SFSTORE"
 _FORMS: dict[int, RuleForm] = {1: "never", 2: "each"}
+_DEMANDS: dict[int, Demand] = {3: "unique", 4: "required"}
 
 
 def is_store(path: str) -> bool:
@@ -140,7 +141,7 @@ def read(data: bytes) -> list[FileLayer]:
     return _Reader(data).layers()
 
 
-def read_with_rules(data: bytes) -> tuple[list[FileLayer], list[Rule]]:
+def read_with_rules(data: bytes) -> tuple[list[FileLayer], list[AnyRule]]:
     """The layers and the rules of a file that the program loads. `ValueError` or `struct.error` for others."""
     reader = _Reader(data)
     return reader.layers(), reader.rules
@@ -287,7 +288,7 @@ class _Reader:
         self._at = 0
         self._wanted = wanted
         self.last = ""
-        self.rules: list[Rule] = []
+        self.rules: list[AnyRule] = []
 
     def layers(self) -> list[FileLayer]:
         self._begin("first eight bytes")
@@ -300,7 +301,7 @@ class _Reader:
             self._at = 9
         layers = [self._layer() for _ in range(self._number("I", "number of layers"))]
         if version > 2:
-            self.rules = [self._rule() for _ in range(self._number("H", "number of rules"))]
+            self.rules = [self._rule(version) for _ in range(self._number("H", "number of rules"))]
         self._begin("end")
         return layers
 
@@ -344,9 +345,12 @@ class _Reader:
             else:
                 self._bytes(_WIDTHS[kind], _VALUE_NAMES[kind])
 
-    def _rule(self) -> Rule:
+    def _rule(self, version: int) -> AnyRule:
         name = self._text("B", "name of a rule")
-        form = _FORMS.get(self._number("B", "form of a rule"))
+        byte = self._number("B", "form of a rule")
+        if byte in _DEMANDS and version > 3:
+            return ValueRule(name, _DEMANDS[byte], self._text("B", "layer of a rule"), self._text("B", "column of a rule"))
+        form = _FORMS.get(byte)
         if form is None:
             raise ValueError("the form of a rule is none")
         layer = self._text("B", "layer of a rule")

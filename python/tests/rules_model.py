@@ -1,7 +1,7 @@
 """A model of a store with rules: a program without rules does the edits, and the whole map is looked at behind each.
 
 What breaks a rule is read off the rows of `join` and `show`, of all features; the program under test looks near what
-changed alone.
+changed alone, and by its indexes.
 """
 
 from __future__ import annotations
@@ -11,6 +11,7 @@ import subprocess
 from typing import NamedTuple, Union
 
 from sfstore import Rule
+from sfstore.results import AnyRule, ValueRule
 
 NAME = re.compile("[A-Za-z][A-Za-z0-9_]{0,31}")
 PREDICATES = ("equals", "disjoint", "intersects", "touches", "within", "contains", "crosses", "overlaps")
@@ -57,7 +58,7 @@ class Step(NamedTuple):
     """A step, and the rules on its other side."""
 
     made: Union[Edit, Rules]
-    rules: list[Rule]
+    rules: list[AnyRule]
 
 
 class Model:
@@ -65,7 +66,7 @@ class Model:
 
     def __init__(self, program: Program) -> None:
         self._program = program
-        self._rules: list[Rule] = []
+        self._rules: list[AnyRule] = []
         self._past: list[Step] = []
         self._future: list[Step] = []
 
@@ -91,23 +92,46 @@ class Model:
             if len(left) == len(self._rules):
                 return "refused 39 NoRule"
             return self._to(Rules(editor), left)
-        rule = Rule(words[2], words[3], words[4], words[5], words[-1])  # type: ignore[arg-type]
+        rule: AnyRule
+        if words[3] in ("unique", "required"):
+            rule = ValueRule(*words[2:])  # type: ignore[arg-type]
+        else:
+            rule = Rule(words[2], words[3], words[4], words[5], words[-1])  # type: ignore[arg-type]
         return self._refusal(rule) or self._to(Rules(editor), [*self._rules, rule])
 
-    def _refusal(self, rule: Rule) -> str:
-        if rule.ask not in PREDICATES and not PATTERN.fullmatch(rule.ask):
+    def _refusal(self, rule: AnyRule) -> str:
+        if isinstance(rule, Rule) and rule.ask not in PREDICATES and not PATTERN.fullmatch(rule.ask):
             return "refused 32 BadPattern"
         if not NAME.fullmatch(rule.name):
             return "refused 20 BadName"
         if any(other.name == rule.name for other in self._rules):
             return "refused 40 RuleExists"
         layers = [row.split(" ")[0] for row in self._program.ask("layers")[1:]]
-        if rule.layer not in layers or rule.other not in layers:
+        if not set(rule.layers) <= set(layers):
             return "refused 18 NoLayer"
+        if isinstance(rule, ValueRule) and rule.column not in [row.split(" ")[0] for row in self._program.ask(f"columns {rule.layer}")[1:]]:
+            return "refused 22 NoColumn"
         return self._broken(rule)
 
-    def _broken(self, rule: Rule) -> str:
+    def _broken(self, rule: AnyRule) -> str:
         """The refusal of what would break a rule, of all features; empty where it holds."""
+        return self._broken_values(rule) if isinstance(rule, ValueRule) else self._broken_layers(rule)
+
+    def _broken_values(self, rule: ValueRule) -> str:
+        rows = self._program.ask(f"show {rule.layer}")[1:]
+        value = re.compile(f" {rule.column}=('(?:[^']|'')*'|[^ ]+)")
+        found = [(row.split(" ")[0], value.search(row)) for row in rows]
+        if rule.demand == "required":
+            left = next((number for number, text in found if text is None), None)
+            return f"refused 37 RuleBroken {rule.name} {left}" if left else ""
+        valued = [(number, text[1]) for number, text in found if text is not None]
+        for at, (number, text) in enumerate(valued):
+            double = next((other for other, behind in valued[at + 1 :] if behind == text), None)
+            if double:
+                return f"refused 37 RuleBroken {rule.name} {number} {double}"
+        return ""
+
+    def _broken_layers(self, rule: Rule) -> str:
         pairs = [row.split(" ") for row in self._program.ask(f"join {rule.layer} {rule.ask} {rule.other}")[1:]]
         if rule.form == "never":
             return f"refused 37 RuleBroken {rule.name} {pairs[0][0]} {pairs[0][1]}" if pairs else ""
@@ -120,17 +144,16 @@ class Model:
 
     def _edit(self, editor: str, line: str) -> str:
         words = line.split(" ")
-        if words[:2] == ["layer", "drop"] and any(words[2] in (rule.layer, rule.other) for rule in self._rules):
+        if words[:2] == ["layer", "drop"] and any(words[2] in rule.layers for rule in self._rules):
+            return "refused 41 LayerRuled"
+        if words[:2] == ["column", "drop"] and any(isinstance(rule, ValueRule) and words[2:] == [rule.layer, rule.column] for rule in self._rules):
             return "refused 41 LayerRuled"
         [answer] = self._program.ask(editor + line)
         if answer.startswith("refused"):
             return answer
         rules = self._rules
         if words[:2] == ["layer", "rename"]:
-            named = {words[2]: words[3]}
-            rules = [
-                rule._replace(layer=named.get(rule.layer, rule.layer), other=named.get(rule.other, rule.other)) for rule in rules
-            ]
+            rules = [_renamed(rule, words[2], words[3]) for rule in rules]
         broken = next(filter(None, map(self._broken, rules)), "")
         if broken:
             self._program.ask(editor + "undo")
@@ -138,7 +161,7 @@ class Model:
         self._to(Edit(editor, line), rules)
         return answer
 
-    def _to(self, made: Union[Edit, Rules], rules: list[Rule]) -> str:
+    def _to(self, made: Union[Edit, Rules], rules: list[AnyRule]) -> str:
         self._past.append(Step(made, self._rules))
         self._future.clear()
         self._rules = rules
@@ -170,6 +193,16 @@ class Model:
         return "ok"
 
 
-def _row(rule: Rule) -> str:
+def _renamed(rule: AnyRule, old: str, new: str) -> AnyRule:
+    """A rule with another name for a layer."""
+    layer = new if rule.layer == old else rule.layer
+    if isinstance(rule, ValueRule):
+        return rule._replace(layer=layer)
+    return rule._replace(layer=layer, other=new if rule.other == old else rule.other)
+
+
+def _row(rule: AnyRule) -> str:
     """The row of a rule: patterns have capital letters."""
+    if isinstance(rule, ValueRule):
+        return rule.line
     return rule.line if rule.ask in PREDICATES else rule._replace(ask=rule.ask.upper()).line

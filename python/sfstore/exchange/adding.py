@@ -14,7 +14,7 @@ from sfstore.exchange.placing import room_beside
 from sfstore.exchange.ruling import Breaks, breaks_of, converse
 from sfstore.geometry import read_wkb, write_wkt
 from sfstore.language import GROUP_MAX
-from sfstore.results import RULE_BROKEN, JournalError, ProgramEnded, Refused, Rule, Value
+from sfstore.results import RULE_BROKEN, AnyRule, JournalError, ProgramEnded, Refused, Rule, Value
 from sfstore.store import Editor, Store
 from sfstore.storefile import FileFeature, FileLayer
 
@@ -24,7 +24,7 @@ __all__ = ["Broken", "Outcome", "add"]
 class Broken(NamedTuple):
     """A rule that a map would break, and by which of its features."""
 
-    rule: Rule
+    rule: AnyRule
     layer: str
     """The layer of these, which is one of the rule's."""
     breaks: Breaks
@@ -139,11 +139,12 @@ def _broken(store: Store, path: str, program: str, groups: Sequence[Sequence[_Pi
     return Outcome(added, 0, refused, broken)
 
 
-def _broken_by(scratch: Editor, rule: Rule, added: dict[str, list[int]]) -> list[Broken]:
+def _broken_by(scratch: Editor, rule: AnyRule, added: dict[str, list[int]]) -> list[Broken]:
     """Which of the features that were added break a rule. What was there before keeps it."""
     found = [Broken(rule, rule.layer, breaks_of(scratch, rule, added.get(rule.layer, [])))]
-    turned = Rule(rule.name, rule.form, rule.other, converse(rule.ask), rule.layer)
     # A feature of the second layer takes no other one away from those of the first.
-    if rule.form == "never" and turned != rule:
-        found.append(Broken(rule, rule.other, breaks_of(scratch, turned, added.get(rule.other, []))))
+    if isinstance(rule, Rule) and rule.form == "never":
+        turned = Rule(rule.name, rule.form, rule.other, converse(rule.ask), rule.layer)
+        if turned != rule:
+            found.append(Broken(rule, rule.other, breaks_of(scratch, turned, added.get(rule.other, []))))
     return [each for each in found if each.breaks.found]

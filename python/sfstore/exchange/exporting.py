@@ -28,7 +28,7 @@ from sfstore.exchange.views import check_end
 from sfstore.exchange.writing import write_data
 from sfstore.geometry import read_wkb
 from sfstore.program import ProgramMissing
-from sfstore.results import Rule
+from sfstore.results import AnyRule
 from sfstore.sidecar import Addition, LayerOrigin, Sidecar
 from sfstore.storefile import FileLayer, fault_words
 from sfstore.storefile import read_with_rules as read_store
@@ -151,7 +151,7 @@ def _blurred(parts: list[Part], grid: Grid) -> list[str]:
     return losses
 
 
-def _write_rules(wishes: Wishes, path: str, rules: list[Rule], say: Say) -> None:
+def _write_rules(wishes: Wishes, path: str, rules: list[AnyRule], say: Say) -> None:
     """Writes all rules to a file beside the map."""
     try:
         rulesfile.write(path, rules, wishes.overwrite, _mode(wishes), say)
@@ -168,7 +168,7 @@ def _keep_grid(wishes: Wishes, found: Sidecar) -> None:
         raise ogr.ExchangeError(f"the map is written, but not its grid beside the store: {reason_of(error)}") from None
 
 
-def _write(wishes: Wishes, parts: list[Part], found: Sidecar, rules: list[Rule], say: Say) -> None:
+def _write(wishes: Wishes, parts: list[Part], found: Sidecar, rules: list[AnyRule], say: Say) -> None:
     """Writes the map as its format has it."""
     wanted = FORMATS[wishes.format]
     if wishes.format == "PostgreSQL":
@@ -184,7 +184,7 @@ def _write(wishes: Wishes, parts: list[Part], found: Sidecar, rules: list[Rule],
         _write_folder(wishes, parts, found, say)
 
 
-def _write_file(wishes: Wishes, parts: list[Part], found: Sidecar, rules: list[Rule], say: Say) -> None:
+def _write_file(wishes: Wishes, parts: list[Part], found: Sidecar, rules: list[AnyRule], say: Say) -> None:
     """Writes one file, or the set that makes one, which takes its place when it is finished."""
     folder, name = os.path.split(os.path.abspath(wishes.target))
     wanted = FORMATS[wishes.format]
@@ -267,7 +267,7 @@ def _mode(wishes: Wishes) -> int:
     return os.stat(wishes.store).st_mode & 0o777
 
 
-def _loaded(wishes: Wishes) -> tuple[list[FileLayer], list[Rule], Sidecar]:
+def _loaded(wishes: Wishes) -> tuple[list[FileLayer], list[AnyRule], Sidecar]:
     """The layers and rules of a file that the program loads, with its side-car.
 
     `ogr.ExchangeError` with the place of its fault, or where it is written meanwhile.

@@ -11,7 +11,7 @@ from sfstore.exchange.columns import DATE, DATE_TIME, REAL, STRING, Sort, Survey
 from sfstore.exchange.names import FreeNames
 from sfstore.exchange.ogr import printable
 from sfstore.language import COLUMN_TYPES
-from sfstore.results import Rule
+from sfstore.results import AnyRule
 from sfstore.sidecar import ColumnOrigin, LayerOrigin, Sidecar
 from sfstore.storefile import DATE as FILE_DATE
 from sfstore.storefile import BOOL, DATETIME, FileLayer
@@ -318,10 +318,10 @@ def _is_wide(part: Part, number: int) -> bool:
     return part.sorts[number].type != REAL and part.survey.numbers[number].are_wide
 
 
-def rules_kept(rules: list[Rule], parts: Iterable[Part], written: Format) -> list[Rule]:
+def rules_kept(rules: list[AnyRule], parts: Iterable[Part], written: Format) -> list[AnyRule]:
     """The rules that a format keeps: those between layers that are written, as many as it has a place for."""
     names = {part.layer.name for part in parts}
-    kept = [rule for rule in rules if {rule.layer, rule.other} <= names]
+    kept = [rule for rule in rules if set(rule.layers) <= names]
     return kept[: written.rules_max]
 
 

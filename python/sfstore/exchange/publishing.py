@@ -28,7 +28,7 @@ from sfstore.exchange.ogr import ExchangeError
 from sfstore.exchange.placing import room_beside, uninterrupted
 from sfstore.exchange.ruling import Ruling, ruled
 from sfstore.exchange.sources import check_unchanged, mode_for
-from sfstore.results import ProgramEnded, Rule
+from sfstore.results import AnyRule, ProgramEnded
 from sfstore.sidecar import Sidecar
 from sfstore.store import Store
 from sfstore.storefile import FileLayer, is_store
@@ -59,7 +59,7 @@ def publish(
     found: Sidecar,
     program: str,
     overwrite: bool,
-    rules: Sequence[Rule] = (),
+    rules: Sequence[AnyRule] = (),
     sources: Sequence[Source] = (),
 ) -> list[Ruling]:
     """Has the program make a store's file, with the side-car beside it, and gives what became of rules.
@@ -86,7 +86,7 @@ def publish(
 
 
 def _made(
-    room: str, layers: list[FileLayer], rules: Sequence[Rule], program: str, target: str
+    room: str, layers: list[FileLayer], rules: Sequence[AnyRule], program: str, target: str
 ) -> tuple[str, list[Ruling]]:
     """The file that the program makes of layers and of those rules that hold, on the disk."""
     draft, made = os.path.join(room, "draft"), os.path.join(room, "made")
@@ -114,7 +114,7 @@ def _saved(draft: str, made: str, program: str, target: str) -> None:
 
 
 def _ruled(
-    draft: str, made: str, layers: list[FileLayer], rules: Sequence[Rule], program: str, target: str
+    draft: str, made: str, layers: list[FileLayer], rules: Sequence[AnyRule], program: str, target: str
 ) -> list[Ruling]:
     """As `_saved`, with those rules added in between that hold."""
     features = {layer.name: [feature.id for feature in layer.features] for layer in layers}

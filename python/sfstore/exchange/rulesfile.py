@@ -10,7 +10,7 @@ from sfstore.exchange.ogr import ExchangeError, printable
 from sfstore.exchange.placing import Place, check_free, placed
 from sfstore.exchange.reports import check_replaced
 from sfstore.exchange.ruling import rule_said
-from sfstore.results import Rule
+from sfstore.results import AnyRule
 
 __all__ = ["check", "read", "write"]
 
@@ -19,7 +19,7 @@ _LONGEST = 200
 _WORDS = "rule add "
 
 
-def read(path: str) -> list[Rule]:
+def read(path: str) -> list[AnyRule]:
     """The rules of a file, each as it stands behind `rule add`, with these words or without.
 
     `ExchangeError` where a line says no rule, or there are more than a map has; `OSError` where it can't be read.
@@ -33,7 +33,7 @@ def read(path: str) -> list[Rule]:
     return [_rule(path, number, line) for number, line in said]
 
 
-def _rule(path: str, number: int, line: bytes) -> Rule:
+def _rule(path: str, number: int, line: bytes) -> AnyRule:
     try:
         return rule_said(line.decode("ascii").removeprefix(_WORDS))
     except ValueError as error:
@@ -47,7 +47,7 @@ def check(path: str, overwrite: bool) -> None:
         check_replaced(path, "rules")
 
 
-def write(path: str, rules: Sequence[Rule], overwrite: bool, mode: int, say: Callable[[str], object]) -> None:
+def write(path: str, rules: Sequence[AnyRule], overwrite: bool, mode: int, say: Callable[[str], object]) -> None:
     """Writes rules to a file, whole or not at all. `ExchangeError` where one is there."""
     place = _place(path, overwrite, mode)
     with placed(place, say) as new:

@@ -8,7 +8,7 @@ from typing import NamedTuple
 
 from sfstore.editor import Editor
 from sfstore.language import NAME, PATTERN, PREDICATES
-from sfstore.results import RULE_BROKEN, Refused, Rule
+from sfstore.results import RULE_BROKEN, AnyRule, Refused, Rule, Value, ValueRule
 from sfstore.rows import rule_of
 
 __all__ = ["BREAKS_MAX", "Break", "Breaks", "Ruling", "breaks_of", "converse", "rule_said", "ruled"]
@@ -21,7 +21,7 @@ _READ_MAX = 5_000_000
 # How many others are named of a feature.
 _OTHERS = 8
 _ASK = f"(?:{PATTERN.pattern}|{'|'.join(PREDICATES)})"
-_RULE = re.compile("{0} (?:never {0} {1} {0}|each {0} {1} some {0})".format(NAME.pattern, _ASK))
+_RULE = re.compile("{0} (?:never {0} {1} {0}|each {0} {1} some {0}|(?:unique|required) {0} {0})".format(NAME.pattern, _ASK))
 # How much of a text that says no rule is shown.
 _SHOWN = 200
 
@@ -31,7 +31,8 @@ class Break(NamedTuple):
 
     feature: int
     others: list[int]
-    """The features of the other layer with which it is so, some of them; none of a rule that demands one."""
+    """The features of the other layer with which it is so, or those of the same one that have its value, some of them; none of a
+    rule that demands one, or a value."""
     total: int
     """How many these are."""
 
@@ -47,24 +48,27 @@ class Breaks(NamedTuple):
 class Ruling(NamedTuple):
     """What became of a rule."""
 
-    rule: Rule
+    rule: AnyRule
     refused: Refused | None
     """Why it was not added; None where it was."""
     breaks: Breaks
     """What breaks it."""
 
 
-def ruled(store: Editor, rule: Rule, features: Iterable[int]) -> Ruling:
+def ruled(store: Editor, rule: AnyRule, features: Iterable[int]) -> Ruling:
     """Adds a rule where it holds. Else the features of its first layer that break it are listed."""
     try:
-        store.add_rule(*rule)
+        if isinstance(rule, ValueRule):
+            store.add_value_rule(*rule)
+        else:
+            store.add_rule(*rule)
     except Refused as refused:
         breaks = breaks_of(store, rule, features) if refused.number == RULE_BROKEN else Breaks([], True)
         return Ruling(rule, refused, breaks)
     return Ruling(rule, None, Breaks([], True))
 
 
-def breaks_of(store: Editor, rule: Rule, features: Iterable[int]) -> Breaks:
+def breaks_of(store: Editor, rule: AnyRule, features: Iterable[int]) -> Breaks:
     """Those of some features of the rule's first layer that break it, in a store that has not the rule."""
     found: list[Break] = []
     read = 0
@@ -72,17 +76,33 @@ def breaks_of(store: Editor, rule: Rule, features: Iterable[int]) -> Breaks:
         if len(found) == BREAKS_MAX or read > _READ_MAX:
             return Breaks(found, False)
         try:
-            others = store.join_one(rule.other, converse(rule.ask), rule.layer, feature)
+            others = _others(store, rule, feature)
         except Refused:
             # Memory ran out, which the others need too.
             return Breaks(found, False)
-        read += len(others)
-        if bool(others) == (rule.form == "never"):
+        if others is not None:
+            read += len(others)
             found.append(Break(feature, others[:_OTHERS], len(others)))
     return Breaks(found, True)
 
 
-def rule_said(line: str) -> Rule:
+def _others(store: Editor, rule: AnyRule, feature: int) -> list[int] | None:
+    """With which others a feature breaks a rule; none, where it needs none for that; None where it does not break it."""
+    if isinstance(rule, Rule):
+        beside = store.join_one(rule.other, converse(rule.ask), rule.layer, feature)
+        return beside if bool(beside) == (rule.form == "never") else None
+    value = store.get(rule.layer, feature)[0].values.get(rule.column)
+    if rule.demand == "required":
+        return [] if value is None else None
+    return None if value is None else _doubles(store, rule, feature, value)
+
+
+def _doubles(store: Editor, rule: ValueRule, feature: int, value: Value) -> list[int] | None:
+    """The other features that have the same value, where there are some."""
+    return [other for other in store.find(rule.layer, rule.column, value) if other != feature] or None
+
+
+def rule_said(line: str) -> AnyRule:
     """The rule that a stranger's line says, as it stands behind `rule add`. `ValueError` where it says none."""
     if not _RULE.fullmatch(line):
         raise ValueError(f"{line[:_SHOWN]!r} is no rule")

@@ -10,7 +10,7 @@ from sfstore.exchange.reports import Report
 from sfstore.exchange.ruling import Break, Breaks, Ruling
 from sfstore.geometry import read_wkb, write_wkb
 from sfstore.refusals import words_of
-from sfstore.results import RULE_BROKEN, Refused, Rule
+from sfstore.results import RULE_BROKEN, AnyRule, Refused
 
 __all__ = ["Brought", "BroughtFeature", "Telling"]
 
@@ -52,10 +52,10 @@ class Telling:
             else:
                 self._tell_refused(rule, refused)
 
-    def tell_broken(self, rule: Rule, layer: str, breaks: Breaks, reason: str) -> None:
+    def tell_broken(self, rule: AnyRule, layer: str, breaks: Breaks, reason: str) -> None:
         """Reports the features of a layer that break a rule."""
-        known = {name: self._layers[name].features() for name in {rule.layer, rule.other} & self._layers.keys()}
-        other = rule.other if layer == rule.layer else rule.layer
+        known = {name: self._layers[name].features() for name in set(rule.layers) & self._layers.keys()}
+        other = rule.layers[1] if layer == rule.layer else rule.layer
         for found in breaks.found:
             feature = known[layer][found.feature]
             shape = read_wkb(feature.geometry).mapped(self._grid.places)
@@ -69,7 +69,7 @@ class Telling:
         """The source's name of a layer, or that of the source where it has no such layer."""
         return self._layers[layer].name if layer in self._layers else self._source
 
-    def _tell_refused(self, rule: Rule, refused: Refused) -> None:
+    def _tell_refused(self, rule: AnyRule, refused: Refused) -> None:
         detail = f"{rule.line}: {refused.number} {refused.name}, {words_of(refused.number).reason}"
         self._report.problem(self._name(rule.layer), None, "a rule is left out", detail)
 

@@ -14,7 +14,7 @@ from sfstore.exchange.formats import RULES_MAX, Part
 from sfstore.exchange.grid import Grid
 from sfstore.exchange.ruling import rule_said
 from sfstore.language import COLUMN_TYPES, NAME
-from sfstore.results import Rule
+from sfstore.results import AnyRule
 from sfstore.sidecar import LayerOrigin
 from sfstore.storefile import FileLayer
 
@@ -54,10 +54,10 @@ class WayBack:
     grid: Grid | None = None
     layers: dict[str, LeftLayer] = field(default_factory=dict)
     """By their names in the file, in drawing order."""
-    rules: list[Rule] = field(default_factory=list)
+    rules: list[AnyRule] = field(default_factory=list)
 
 
-def left(parts: Iterable[Part], grid: tuple[str, str, str], rules: Sequence[Rule]) -> str:
+def left(parts: Iterable[Part], grid: tuple[str, str, str], rules: Sequence[AnyRule]) -> str:
     """The metadata of layers, and of rules between them."""
     layers = [
         {
@@ -120,7 +120,7 @@ def _layer(item: Any) -> LeftLayer:
     return found
 
 
-def _rules(lines: Any) -> list[Rule]:
+def _rules(lines: Any) -> list[AnyRule]:
     if not isinstance(lines, list):
         raise ValueError("the rules are no list")
     if len(lines) > RULES_MAX:

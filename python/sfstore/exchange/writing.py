@@ -12,14 +12,14 @@ from sfstore.exchange.formats import FORMATS, Part
 from sfstore.exchange.grid import Grid
 from sfstore.exchange.moments import day_of, moment_of
 from sfstore.geometry import KINDS, read_wkb, write_wkb
-from sfstore.results import Rule
+from sfstore.results import AnyRule
 from sfstore.sidecar import Crs, Sidecar
 from sfstore.storefile import FileFeature
 
 __all__ = ["write_data"]
 
 
-def write_data(path: str, name: str, parts: Sequence[Part], found: Sidecar, rules: Sequence[Rule] = ()) -> None:
+def write_data(path: str, name: str, parts: Sequence[Part], found: Sidecar, rules: Sequence[AnyRule] = ()) -> None:
     """Writes layers, and the rules that a format keeps, to a new file of it, and reads it back.
 
     `ogr.ExchangeError` where OGR can't write it, or where the file has anything else than the store, but for what the
