@@ -1,4 +1,3 @@
--- Beside the headline, whose `find` is defined in sf_console/specs/Answers.
 -- Which features of a layer have a value that is asked for: one value, or any between two ends.
 use Rattle.std.specs.Prelude.{ℕ, Bool, true, false, ◌&&◌, List, filter, Option}
 use Rattle.std.specs.Map.{keys_of}
