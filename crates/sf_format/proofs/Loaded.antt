@@ -37,9 +37,8 @@ use Rattle.sf_layers.specs.WellFormed.{IsIssued, IsColumn, IsValue, IsFeature, I
 use Rattle.sf_layers.proofs.Issued.{all-push}
 use Rattle.sf_layers.proofs.Kept.{none-from}
 use Rattle.sf_ruled_store.specs.Ruling.{Rule}
-use Rattle.sf_ruled_store.specs.Ruling.{HasLayers}
-use Rattle.sf_ruled_store.proofs.HeldLaws.{rules_are_over_the_plane}
-use Rattle.sf_ruled_store.specs.Ruled.{Ruled, has_layers}
+use Rattle.sf_ruled_store.proofs.RuledLaws.{is_settled-kept}
+use Rattle.sf_ruled_store.specs.Ruled.{Ruled}
 use Rattle.sf_streams.specs.Streams.{Left}
 use Rattle.sf_format.specs.declared.version.Version.{Version}
 use Rattle.sf_format.specs.declared.version.Version.TheVariants.{First, Second, Third, Fourth}
@@ -371,7 +370,7 @@ files-are-ruled-well text ruled fits e =
       content = good.0;
       settled = record {
         named = record { few = fine.0.1; named = names-of third.0 fine.0.0.are; distinct = fine.0.0.distinct };
-        layers = fine.0.0.layers;
+        there = fine.0.0.there;
         held = none-broken second.0 0 third.0 fine.0.0.held;
       };
       rules = fine.0.0.are;
@@ -389,14 +388,7 @@ files-are-well-formed text content fits e =
 
 -- ---- rules over the plane
 
-has-layers : (content : Content) (rs : List Rule) → list_all (has_layers content) rs ≡ true → AllByRecursion (HasLayers content) rs
-has-layers content [] h = tt
-has-layers content (r ∷ rs) h =
-    let parts = both_of (has_layers content r) (list_all (has_layers content) rs) h in
-    let layers = both_of (has_layer content r.first) (has_layer content r.second) parts.0 in
-    ((layers.0, layers.1), has-layers content rs parts.1)
-
 pub rules-of-files-hold : RulesOfFilesHold
 rules-of-files-hold text ruled fits e =
     let is = files-are-ruled-well text ruled fits e in
-    (rules_are_over_the_plane ruled.content ruled.rules is.content (has-layers ruled.content ruled.rules is.settled.layers)).0 is.settled.held
+    is_settled-kept ruled is.content is.settled
