@@ -2,7 +2,7 @@
 use Rattle.std.proofs.Common.{SFits, ◌≡◌, ℕ, ◌^◌, ◌<◌, ◌≤◌, Bool, true, false, cond, ◌&&◌, ◌||◌, ℤ, pos, negsuc, List, [], ◌∷◌, ◌++◌, map, length, Option, Some, None, IsTrue, Result, Ok, Err, bytes_eq, nat_eq, refl, sym, ap, subst, ◌∙◌, arith}
 use Rattle.std.specs.Prelude.{IfOk, IsSomeAnd, find, nat_lt, nat_le}
 use Rattle.std.specs.Int.{w64, cast_signed}
-use Rattle.std.specs.List.{list_all, list_any, AllByRecursion}
+use Rattle.std.specs.List.{list_any, AllByRecursion}
 use Rattle.std.specs.List.Sorted.{IsStrictlySortedBy}
 use Rattle.std.specs.Map.{keys_of, values_of}
 use Rattle.std.specs.Ordering.{nat_cmp}
@@ -32,7 +32,7 @@ use Rattle.sf_features.specs.Columns.{IsDistinct, named, numbered}
 use Rattle.sf_features.specs.Features.{FeatureContent}
 use Rattle.sf_features.specs.Values.{fits_int, is_attr_text, is_of_type}
 use Rattle.sf_layers.specs.declared.layer_kind.LayerKind.{LayerKind}
-use Rattle.sf_layers.specs.Content.{Content, LayerContent, has_layer, layer_of, admits}
+use Rattle.sf_layers.specs.Content.{Content, LayerContent, layer_of, admits}
 use Rattle.sf_layers.specs.WellFormed.{IsIssued, IsColumn, IsValue, IsFeature, IsLayer, IsWellFormed, layers_max}
 use Rattle.sf_layers.proofs.Issued.{all-push}
 use Rattle.sf_layers.proofs.Kept.{none-from}

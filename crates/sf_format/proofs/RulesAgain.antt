@@ -16,7 +16,7 @@ use Rattle.sf_features.specs.Columns.{IsDistinct}
 use Rattle.sf_features.specs.Names.{is_name}
 use Rattle.sf_features.specs.Columns.{named}
 use Rattle.sf_features.specs.declared.column.Column.{Column}
-use Rattle.sf_layers.specs.Content.{Content, LayerContent, column_named, has_layer, layer_of}
+use Rattle.sf_layers.specs.Content.{Content, LayerContent, has_layer, layer_of}
 use Rattle.sf_layers.specs.WellFormed.{IsColumn, IsLayer, IsWellFormed}
 use Rattle.sf_ruled_store.specs.Ruling.{HasNineLetters}
 use Rattle.sf_ruled_store.specs.Ruling.{Break}
