@@ -138,15 +138,18 @@ broken = refl
 
 -- a layer with three columns and two points: no value of n is there twice, that of m is, and the second point has none of o
 abbrev measured : Content
-measured = (codes "a", record {
-  kind = Only kinds.Point;
-  next_id = 3;
-  next_column = 4;
-  columns = record { number = 1; name = codes "n"; column_type = types.Int } ∷ record { number = 2; name = codes "m"; column_type = types.Int }
-      ∷ record { number = 3; name = codes "o"; column_type = types.Int } ∷ [];
-  features = (1, record { geometry = Point (record { x = pos 3; y = pos 4 }); values = (1, values.Int (pos 5)) ∷ (2, values.Int (pos 6)) ∷ (3, values.Int (pos 6)) ∷ [] })
-      ∷ (2, record { geometry = Point (record { x = pos 3; y = pos 4 }); values = (1, values.Int (pos 7)) ∷ (2, values.Int (pos 6)) ∷ [] }) ∷ [];
-}) ∷ []
+measured = (
+  codes "a",
+  record {
+    kind = Only kinds.Point;
+    next_id = 3;
+    next_column = 4;
+    columns = record { number = 1; name = codes "n"; column_type = types.Int } ∷ record { number = 2; name = codes "m"; column_type = types.Int }
+        ∷ record { number = 3; name = codes "o"; column_type = types.Int } ∷ [];
+    features = (1, record { geometry = Point (record { x = pos 3; y = pos 4 }); values = (1, values.Int (pos 5)) ∷ (2, values.Int (pos 6)) ∷ (3, values.Int (pos 6)) ∷ [] })
+        ∷ (2, record { geometry = Point (record { x = pos 3; y = pos 4 }); values = (1, values.Int (pos 7)) ∷ (2, values.Int (pos 6)) ∷ [] }) ∷ [];
+  },
+) ∷ []
 
 -- a rule that demands something of the values in a column of the layer
 abbrev demanding : List ℕ → Demand → List ℕ → Rule

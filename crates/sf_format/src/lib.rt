@@ -10,6 +10,7 @@ mod version;
 pub use defect::Defect;
 pub use rule_form::RuleForm;
 pub use sf_ruled_store::{
-    Ask, Demand, Form, LayerRule, Refusal as StepRefusal, Rule, Ruled, Rules as KeptRules, Says, ValueRule,
+    Ask, Demand, Form, LayerRule, Refusal as StepRefusal, Rule, Ruled, Rules as KeptRules, Says,
+    ValueRule,
 };
 pub use version::Version;
