@@ -8,7 +8,10 @@ use Rattle.sf_ruled_store.specs.Ruling.{Matching, Named}
 use Rattle.sf_layers.specs.declared.layer_kind.LayerKind.TheVariants.{Only}
 use Rattle.sf_features.specs.Features.{plain_feature}
 use Rattle.sf_layers.specs.Content.{Content}
-use Rattle.sf_ruled_store.specs.Ruling.{Rule}
+use Rattle.sf_features.specs.declared.attr_value.AttrValue.TheVariants as values
+use Rattle.sf_features.specs.declared.column_type.ColumnType.TheVariants as types
+use Rattle.sf_ruled_store.specs.Ruling.{Rule, OfLayers, OfValues}
+use Rattle.sf_ruled_store.specs.Ruling.{Demand, Required, Unique}
 use Rattle.sf_ruled_store.specs.Ruling.{Each, Never}
 use Rattle.sf_ruled_store.specs.Ruled.{Ruled}
 use Rattle.sf_format.specs.Defects.{number_of}
@@ -30,10 +33,13 @@ wells = (codes "a", record { kind = Only kinds.Point; next_id = 2; next_column =
     ∷ (codes "b", record { kind = Only kinds.Point; next_id = 1; next_column = 1; columns = []; features = [] }) ∷ []
 
 abbrev apart : Rule
-apart = record { name = codes "apart"; form = Never; first = codes "a"; ask = Matching (Any ∷ Filled ∷ Empty ∷ Zero ∷ One ∷ Two ∷ Any ∷ Any ∷ Any ∷ []); second = codes "b" }
+apart = record {
+  name = codes "apart";
+  says = OfLayers (record { form = Never; first = codes "a"; ask = Matching (Any ∷ Filled ∷ Empty ∷ Zero ∷ One ∷ Two ∷ Any ∷ Any ∷ Any ∷ []); second = codes "b" });
+}
 
 abbrev inside : Rule
-inside = record { name = codes "in"; form = Each; first = codes "b"; ask = Named Within; second = codes "a" }
+inside = record { name = codes "in"; says = OfLayers (record { form = Each; first = codes "b"; ask = Named Within; second = codes "a" }) }
 
 abbrev kept : Ruled
 kept = record { content = wells; rules = apart ∷ inside ∷ [] }
@@ -103,8 +109,8 @@ name_twice = refl
 pub no_form : load (named (0 ∷ [])) ≡ Err (78, 34)
 no_form = refl
 
-pub form_three : load (named (3 ∷ [])) ≡ Err (78, 34)
-form_three = refl
+pub form_five : load (named (5 ∷ [])) ≡ Err (78, 34)
+form_five = refl
 
 pub no_first_layer : load (named (1 ∷ 1 ∷ 99 ∷ [])) ≡ Err (79, 18)
 no_first_layer = refl
@@ -127,3 +133,90 @@ no_second_layer = refl
 -- the point of the first layer is within none of the second; the place is that of the rule, also where more is wrong behind it
 pub broken : load (with_rules (0 ∷ 2 ∷ (rule_bytes inside ++ (1 ∷ 114 ∷ 2 ∷ 1 ∷ 97 ∷ 5 ∷ 1 ∷ 98 ∷ 0 ∷ [])))) ≡ Err (85, 37)
 broken = refl
+
+-- ---- rules on values
+
+-- a layer with three columns and two points: no value of n is there twice, that of m is, and the second point has none of o
+abbrev measured : Content
+measured = (
+  codes "a",
+  record {
+    kind = Only kinds.Point;
+    next_id = 3;
+    next_column = 4;
+    columns = record { number = 1; name = codes "n"; column_type = types.Int } ∷ record { number = 2; name = codes "m"; column_type = types.Int }
+        ∷ record { number = 3; name = codes "o"; column_type = types.Int } ∷ [];
+    features = (1, record { geometry = Point (record { x = pos 3; y = pos 4 }); values = (1, values.Int (pos 5)) ∷ (2, values.Int (pos 6)) ∷ (3, values.Int (pos 6)) ∷ [] })
+        ∷ (2, record { geometry = Point (record { x = pos 3; y = pos 4 }); values = (1, values.Int (pos 7)) ∷ (2, values.Int (pos 6)) ∷ [] }) ∷ [];
+  },
+) ∷ []
+
+-- a rule that demands something of the values in a column of the layer
+abbrev demanding : List ℕ → Demand → List ℕ → Rule
+demanding title demand column = record { name = title; says = OfValues (record { demand = demand; layer = codes "a"; column = column }) }
+
+abbrev once : Rule
+once = demanding (codes "once") Unique (codes "n")
+
+abbrev known : Rule
+known = demanding (codes "all") Required (codes "n")
+
+abbrev valued : Ruled
+valued = record { content = measured; rules = once ∷ known ∷ demanding (codes "o") Unique (codes "o") ∷ [] }
+
+pub once_bytes : rule_bytes once ≡ 4 ∷ codes "once" ++ 3 ∷ 1 ∷ 97 ∷ 1 ∷ 110 ∷ []
+once_bytes = refl
+
+pub known_bytes : rule_bytes known ≡ 3 ∷ codes "all" ++ 4 ∷ 1 ∷ 97 ∷ 1 ∷ 110 ∷ []
+known_bytes = refl
+
+-- the bytes up to the number of rules
+abbrev measured_part : List ℕ
+measured_part = take 155 (canonical measured)
+
+pub measured_length : length measured_part ≡ 155
+measured_length = refl
+
+pub valued_bytes : canonical_ruled valued ≡ measured_part ++ 0 ∷ 3 ∷ (4 ∷ codes "once" ++ 3 ∷ 1 ∷ 97 ∷ 1 ∷ 110 ∷ 3 ∷ codes "all" ++ 4 ∷ 1 ∷ 97 ∷ 1 ∷ 110 ∷ 1 ∷ 111 ∷ 3 ∷ 1 ∷ 97 ∷ 1 ∷ 111 ∷ [])
+valued_bytes = refl
+
+pub valued_loads : load (canonical_ruled valued) ≡ Ok valued
+valued_loads = refl
+
+-- a rule of the name r behind the layer, and what comes after its name
+abbrev of_measured : List ℕ → List ℕ
+of_measured rest = measured_part ++ 0 ∷ 1 ∷ 1 ∷ 114 ∷ rest
+
+-- the same of the third version
+abbrev third_of_measured : List ℕ → List ℕ
+third_of_measured rest = codes "SFSTORE3" ++ 24 ∷ drop 9 (of_measured rest)
+
+pub unknown_form : load (of_measured (5 ∷ 1 ∷ 97 ∷ 1 ∷ 110 ∷ [])) ≡ Err (159, 34)
+unknown_form = refl
+
+pub no_layer : load (of_measured (3 ∷ 1 ∷ 99 ∷ 1 ∷ 110 ∷ [])) ≡ Err (160, 18)
+no_layer = refl
+
+pub no_column : load (of_measured (3 ∷ 1 ∷ 97 ∷ 1 ∷ 112 ∷ [])) ≡ Err (162, 22)
+no_column = refl
+
+pub column_no_name : load (of_measured (4 ∷ 1 ∷ 97 ∷ 1 ∷ 32 ∷ [])) ≡ Err (162, 20)
+column_no_name = refl
+
+pub column_cut_off : load (of_measured (4 ∷ 1 ∷ 97 ∷ 1 ∷ [])) ≡ Err (163, 7)
+column_cut_off = refl
+
+-- two points have the same value of m
+pub value_twice : load (of_measured (3 ∷ 1 ∷ 97 ∷ 1 ∷ 109 ∷ [])) ≡ Err (157, 37)
+value_twice = refl
+
+-- a point has no value of o
+pub value_missing : load (of_measured (4 ∷ 1 ∷ 97 ∷ 1 ∷ 111 ∷ [])) ≡ Err (157, 37)
+value_missing = refl
+
+-- the third version has no rules on values
+pub third_unique : load (third_of_measured (3 ∷ 1 ∷ 97 ∷ 1 ∷ 110 ∷ [])) ≡ Err (159, 34)
+third_unique = refl
+
+pub third_required : load (third_of_measured (4 ∷ 1 ∷ 97 ∷ 1 ∷ 110 ∷ [])) ≡ Err (159, 34)
+third_required = refl

@@ -11,14 +11,16 @@ use Rattle.sf_features.specs.Features.{FeatureContent}
 use Rattle.sf_layers.specs.declared.layer_kind.LayerKind.{LayerKind}
 use Rattle.sf_layers.specs.Content.{Content, LayerContent}
 use Rattle.sf_ruled_store.specs.Ruling.{Ask}
-use Rattle.sf_ruled_store.specs.Ruling.{Rule}
+use Rattle.sf_ruled_store.specs.Ruling.{Rule, Says, OfLayers, OfValues}
 use Rattle.sf_ruled_store.specs.Ruling.{Form}
+use Rattle.sf_ruled_store.specs.Ruling.{Demand}
 use Rattle.sf_ruled_store.specs.Ruled.{Ruled}
+use Rattle.sf_format.specs.declared.rule_form.RuleForm.{RuleForm}
 use Rattle.sf_format.specs.declared.version.Version.{Version}
 use Rattle.sf_format.specs.declared.defect.Defect.TheVariants.{NoColumn, WrongValue, WrongKind, IdsExhausted, ColumnsExhausted, BadFile}
 use Rattle.sf_wkb.specs.Grammar.{read_in}
 use Rattle.sf_format.specs.Readings.{Reading, ◌>>=◌, done, bytes, field, number, items, end}
-use Rattle.sf_format.specs.Format.{RowReading, allowed, present, name, type_of_byte, kind_of_byte, fresh_column_name, column, admitted, typed_value, value, geometry, feature, layers, form_of_byte, known_layer_name, ask, grid_of, rules_in}
+use Rattle.sf_format.specs.Format.{RowReading, allowed, present, name, type_of_byte, kind_of_byte, fresh_column_name, column, admitted, typed_value, value, geometry, feature, layers, form_of_byte, known_column_name, known_layer_name, ask, said, grid_of, rules_in}
 
 -- ---- a column
 
@@ -118,24 +120,29 @@ layer_after_name row title = do
 
 -- ---- a rule
 
-abbrev pub rule_after_ask : Content → List ℕ → Form → List ℕ → Ask → Reading Rule
-rule_after_ask content title form first asked = do
+abbrev pub said_after_ask : Content → Form → List ℕ → Ask → Reading Says
+said_after_ask content form first asked = do
   second ← field name (known_layer_name content)
-  done (record { name = title; form = form; first = first; ask = asked; second = second })
+  done (OfLayers (record { form = form; first = first; ask = asked; second = second }))
 
-abbrev pub rule_after_first : Content → List ℕ → Form → List ℕ → Reading Rule
-rule_after_first content title form first = do
+abbrev pub said_after_first : Content → Form → List ℕ → Reading Says
+said_after_first content form first = do
   asked ← ask
-  rule_after_ask content title form first asked
+  said_after_ask content form first asked
 
-abbrev pub rule_after_form : Content → List ℕ → Form → Reading Rule
+abbrev pub said_after_layer : Content → Demand → List ℕ → Reading Says
+said_after_layer content demand layer = do
+  column ← field name (known_column_name content layer)
+  done (OfValues (record { demand = demand; layer = layer; column = column }))
+
+abbrev pub rule_after_form : Content → List ℕ → RuleForm → Reading Rule
 rule_after_form content title form = do
-  first ← field name (known_layer_name content)
-  rule_after_first content title form first
+  says ← said content form
+  done (record { name = title; says = says })
 
-abbrev pub rule_after_name : Content → List ℕ → Reading Rule
-rule_after_name content title = do
-  form ← field (number 1) (λ byte. present (form_of_byte byte) BadFile)
+abbrev pub rule_after_name : Version → Content → List ℕ → Reading Rule
+rule_after_name version content title = do
+  form ← field (number 1) (λ byte. present (form_of_byte version byte) BadFile)
   rule_after_form content title form
 
 -- ---- a file

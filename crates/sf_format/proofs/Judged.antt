@@ -19,9 +19,9 @@ use Rattle.sf_wkb.specs.Grammar.{read_in}
 use Rattle.sf_wkb.proofs.Sized.{read_is_sized}
 use Rattle.sf_known.specs.Patterns.{pattern_of}
 use Rattle.sf_ruled_store.specs.Ruling.{Matching, Named}
-use Rattle.sf_ruled_store.specs.Ruling.{Rule}
+use Rattle.sf_ruled_store.specs.Ruling.{Rule, Says, OfLayers, OfValues}
 use Rattle.sf_ruled_store.specs.Ruling.{break_of}
-use Rattle.sf_ruled_store.specs.Ruled.{Ruled, has_rule}
+use Rattle.sf_ruled_store.specs.Ruled.{Ruled, has_column_in, has_rule}
 use Rattle.sf_features.specs.declared.column.Column.{Column}
 use Rattle.sf_features.specs.declared.column_type.ColumnType.{ColumnType}
 use Rattle.sf_features.specs.declared.column_type.ColumnType.TheVariants as types
@@ -34,18 +34,20 @@ use Rattle.sf_dates.specs.declared.moment.Moment.{Moment}
 use Rattle.sf_decimals.specs.declared.number.Number.{Number}
 use Rattle.sf_features.specs.Values.{is_attr_text}
 use Rattle.sf_layers.specs.declared.layer_kind.LayerKind.{LayerKind}
-use Rattle.sf_layers.specs.Content.{Content, LayerContent, admits, has_layer}
+use Rattle.sf_layers.specs.Content.{Content, LayerContent, admits, has_layer, layer_of}
 use Rattle.sf_layers.specs.WellFormed.{layers_max}
 use Rattle.sf_streams.specs.Streams.{Left}
+use Rattle.sf_format.specs.declared.rule_form.RuleForm.{RuleForm}
+use Rattle.sf_format.specs.declared.rule_form.RuleForm.TheVariants.{Between, OnValues}
 use Rattle.sf_format.specs.declared.version.Version.{Version}
 use Rattle.sf_format.specs.declared.version.Version.TheVariants.{First, Second, Third, Fourth}
 use Rattle.sf_format.specs.declared.defect.Defect.{Defect}
 use Rattle.sf_format.specs.declared.defect.Defect.TheVariants.{Truncated, TooManyVertices, Invalid, LayerExists, BadName, NoColumn, ColumnExists, WrongValue, WrongKind, IdsExhausted, ColumnsExhausted, BadFile, NoLayer, RuleExists, BadPattern, RuleBroken}
 use Rattle.sf_format.specs.Readings.{Reads, Reading, and_then, ◌>>=◌, done, bytes, judged, field, number, sized, items, end}
 use Rattle.sf_format.specs.Laws.{FilesAreJudgedOverThePlane, HasFaultyGeometry}
-use Rattle.sf_format.specs.Format.{RowReading, row_max, allowed, present, last_number, name, kind_of_byte, type_of_byte, fresh_number, fresh_column_name, column, without_fault, admitted, geometry, signed_number, decimal_parts, decimal_in, bool_of_byte, date_parts, day_in, moment_parts, moment_in, typed_value, next_column_of, value, next_of, feature, fresh_layer_name, layer, layers, ask, asked_by, form_of_byte, fresh_rule_name, held_rule, known_layer_name, predicate_of_byte, rule, rules_in, unbroken, head, version_of, on_grid, grid_of, value_of, rules}
+use Rattle.sf_format.specs.Format.{RowReading, row_max, allowed, present, last_number, name, kind_of_byte, type_of_byte, fresh_number, fresh_column_name, column, without_fault, admitted, geometry, signed_number, decimal_parts, decimal_in, bool_of_byte, date_parts, day_in, moment_parts, moment_in, typed_value, next_column_of, value, next_of, feature, fresh_layer_name, layer, layers, ask, asked_by, form_of_byte, fresh_rule_name, held_rule, known_column_name, known_layer_name, predicate_of_byte, rule, rules_in, said, unbroken, head, version_of, on_grid, grid_of, value_of, rules}
 use Rattle.sf_format.proofs.Again.{at}
-use Rattle.sf_format.proofs.Continuations.{decimal_after_mantissa, date_after_month, date_after_year, moment_after_date, column_after_type, column_after_number, value_after_column, geometry_after_size, feature_after_count, feature_after_geometry, feature_after_id, layer_after_feature_count, layer_after_columns, layer_after_column_count, layer_after_next_column, layer_after_next_id, layer_after_kind, layer_after_name, rule_after_ask, rule_after_first, rule_after_form, rule_after_name, file_after_head, file_after_layers, file_after_rules}
+use Rattle.sf_format.proofs.Continuations.{decimal_after_mantissa, date_after_month, date_after_year, moment_after_date, column_after_type, column_after_number, value_after_column, geometry_after_size, feature_after_count, feature_after_geometry, feature_after_id, layer_after_feature_count, layer_after_columns, layer_after_column_count, layer_after_next_column, layer_after_next_id, layer_after_kind, layer_after_name, rule_after_form, rule_after_name, said_after_ask, said_after_first, said_after_layer, file_after_head, file_after_layers, file_after_rules}
 use Rattle.sf_format.proofs.Loaded.{GivesSized}
 
 -- what is left of a text is what stands behind its place
@@ -303,31 +305,44 @@ Finds-ask row text = Finds-field row text (number 1 >>= asked_by) (λ found. pre
 Finds-known : (row : RowReading) (text : List ℕ) (content : Content) → Finds row text (field name (known_layer_name content))
 Finds-known row text content = Finds-field row text name (known_layer_name content) (Finds-name row text) (λ title. allowed_other (has_layer content title) NoLayer title no_layer)
 
-Finds-kept : (row : RowReading) (text : List ℕ) (content : Content) (earlier : List Rule) → Finds row text (rule content earlier)
-Finds-kept row text content earlier =
-    Finds-then row text (field name (fresh_rule_name earlier)) (rule_after_name content)
-    (Finds-field row text name (fresh_rule_name earlier) (Finds-name row text) (λ title. allowed_other (not (has_rule title earlier)) RuleExists title rule_exists))
-    (λ title. Finds-then row text (field (number 1) (λ byte. present (form_of_byte byte) BadFile)) (rule_after_form content title)
-    (Finds-rule row text 1 _ (λ byte. present_other (form_of_byte byte) BadFile bad_file))
-    (λ form. Finds-then row text (field name (known_layer_name content)) (rule_after_first content title form) (Finds-known row text content)
-    (λ first. Finds-then row text ask (rule_after_ask content title form first) (Finds-ask row text)
-    (λ asked. Finds-then row text (field name (known_layer_name content)) (λ second. done (record { name = title; form = form; first = first; ask = asked; second = second }))
-    (Finds-known row text content) (λ second. Finds-done {T = Rule} row text (record { name = title; form = form; first = first; ask = asked; second = second }))))))
+Finds-column_known : (row : RowReading) (text : List ℕ) (content : Content) (layer : List ℕ) → Finds row text (field name (known_column_name content layer))
+Finds-column_known row text content layer = Finds-field row text name (known_column_name content layer) (Finds-name row text)
+    (λ title. allowed_other (has_column_in title (layer_of content layer)) NoColumn title no_column)
 
-Finds-held : (row : RowReading) (text : List ℕ) (content : Content) (earlier : List Rule) → Finds row text (held_rule content earlier)
-Finds-held row text content earlier = Finds-field row text (rule content earlier) (unbroken content) (Finds-kept row text content earlier)
+Finds-said : (row : RowReading) (text : List ℕ) (content : Content) (form : RuleForm) → Finds row text (said content form)
+Finds-said row text content (Between form) =
+    Finds-then row text (field name (known_layer_name content)) (said_after_first content form) (Finds-known row text content)
+    (λ first. Finds-then row text ask (said_after_ask content form first) (Finds-ask row text)
+    (λ asked. Finds-then row text (field name (known_layer_name content)) (λ second. done (OfLayers (record { form = form; first = first; ask = asked; second = second })))
+    (Finds-known row text content) (λ second. Finds-done {T = Says} row text (OfLayers (record { form = form; first = first; ask = asked; second = second })))))
+Finds-said row text content (OnValues demand) =
+    Finds-then row text (field name (known_layer_name content)) (said_after_layer content demand) (Finds-known row text content)
+    (λ layer. Finds-then row text (field name (known_column_name content layer)) (λ column. done (OfValues (record { demand = demand; layer = layer; column = column })))
+    (Finds-column_known row text content layer) (λ column. Finds-done {T = Says} row text (OfValues (record { demand = demand; layer = layer; column = column }))))
+
+Finds-kept : (row : RowReading) (text : List ℕ) (version : Version) (content : Content) (earlier : List Rule) → Finds row text (rule version content earlier)
+Finds-kept row text version content earlier =
+    Finds-then row text (field name (fresh_rule_name earlier)) (rule_after_name version content)
+    (Finds-field row text name (fresh_rule_name earlier) (Finds-name row text) (λ title. allowed_other (not (has_rule title earlier)) RuleExists title rule_exists))
+    (λ title. Finds-then row text (field (number 1) (λ byte. present (form_of_byte version byte) BadFile)) (rule_after_form content title)
+    (Finds-rule row text 1 _ (λ byte. present_other (form_of_byte version byte) BadFile bad_file))
+    (λ form. Finds-then row text (said content form) (λ says. done (record { name = title; says = says })) (Finds-said row text content form)
+    (λ says. Finds-done {T = Rule} row text (record { name = title; says = says }))))
+
+Finds-held : (row : RowReading) (text : List ℕ) (version : Version) (content : Content) (earlier : List Rule) → Finds row text (held_rule version content earlier)
+Finds-held row text version content earlier = Finds-field row text (rule version content earlier) (unbroken content) (Finds-kept row text version content earlier)
     (λ r. allowed_other (not (is_some (break_of content r))) RuleBroken r rule_broken)
 
-Finds-all_rules : (row : RowReading) (text : List ℕ) (content : Content) → Finds row text (rules content)
-Finds-all_rules row text content =
-    Finds-then row text (number 2) (λ count. items (held_rule content) count []) (Finds-number row text 2)
-    (λ count. Finds-items row text (held_rule content) (Finds-held row text content) count [])
+Finds-all_rules : (row : RowReading) (text : List ℕ) (version : Version) (content : Content) → Finds row text (rules version content)
+Finds-all_rules row text version content =
+    Finds-then row text (number 2) (λ count. items (held_rule version content) count []) (Finds-number row text 2)
+    (λ count. Finds-items row text (held_rule version content) (Finds-held row text version content) count [])
 
 Finds-rules : (row : RowReading) (text : List ℕ) (version : Version) (content : Content) → Finds row text (rules_in version content)
 Finds-rules row text First content = Finds-done {T = List Rule} row text []
 Finds-rules row text Second content = Finds-done {T = List Rule} row text []
-Finds-rules row text Third content = Finds-all_rules row text content
-Finds-rules row text Fourth content = Finds-all_rules row text content
+Finds-rules row text Third content = Finds-all_rules row text Third content
+Finds-rules row text Fourth content = Finds-all_rules row text Fourth content
 
 -- ---- the front and the end of a file, which have no fault of shape
 

@@ -2,7 +2,7 @@
 use Rattle.std.proofs.Common.{SFits, ◌≡◌, ℕ, ◌^◌, ◌<◌, ◌≤◌, Bool, true, false, cond, ◌&&◌, ◌||◌, ℤ, pos, negsuc, List, [], ◌∷◌, ◌++◌, map, length, Option, Some, None, IsTrue, Result, Ok, Err, bytes_eq, nat_eq, refl, sym, ap, subst, ◌∙◌, arith}
 use Rattle.std.specs.Prelude.{IfOk, IsSomeAnd, find, nat_lt, nat_le}
 use Rattle.std.specs.Int.{w64, cast_signed}
-use Rattle.std.specs.List.{list_all, list_any, AllByRecursion}
+use Rattle.std.specs.List.{list_any, AllByRecursion}
 use Rattle.std.specs.List.Sorted.{IsStrictlySortedBy}
 use Rattle.std.specs.Map.{keys_of, values_of}
 use Rattle.std.specs.Ordering.{nat_cmp}
@@ -32,14 +32,13 @@ use Rattle.sf_features.specs.Columns.{IsDistinct, named, numbered}
 use Rattle.sf_features.specs.Features.{FeatureContent}
 use Rattle.sf_features.specs.Values.{fits_int, is_attr_text, is_of_type}
 use Rattle.sf_layers.specs.declared.layer_kind.LayerKind.{LayerKind}
-use Rattle.sf_layers.specs.Content.{Content, LayerContent, has_layer, layer_of, admits}
+use Rattle.sf_layers.specs.Content.{Content, LayerContent, layer_of, admits}
 use Rattle.sf_layers.specs.WellFormed.{IsIssued, IsColumn, IsValue, IsFeature, IsLayer, IsWellFormed, layers_max}
 use Rattle.sf_layers.proofs.Issued.{all-push}
 use Rattle.sf_layers.proofs.Kept.{none-from}
 use Rattle.sf_ruled_store.specs.Ruling.{Rule}
-use Rattle.sf_ruled_store.specs.Ruling.{HasLayers}
-use Rattle.sf_ruled_store.proofs.HeldLaws.{rules_are_over_the_plane}
-use Rattle.sf_ruled_store.specs.Ruled.{Ruled, has_layers}
+use Rattle.sf_ruled_store.proofs.RuledLaws.{is_settled-kept}
+use Rattle.sf_ruled_store.specs.Ruled.{Ruled}
 use Rattle.sf_streams.specs.Streams.{Left}
 use Rattle.sf_format.specs.declared.version.Version.{Version}
 use Rattle.sf_format.specs.declared.version.Version.TheVariants.{First, Second, Third, Fourth}
@@ -371,7 +370,7 @@ files-are-ruled-well text ruled fits e =
       content = good.0;
       settled = record {
         named = record { few = fine.0.1; named = names-of third.0 fine.0.0.are; distinct = fine.0.0.distinct };
-        layers = fine.0.0.layers;
+        there = fine.0.0.there;
         held = none-broken second.0 0 third.0 fine.0.0.held;
       };
       rules = fine.0.0.are;
@@ -389,14 +388,7 @@ files-are-well-formed text content fits e =
 
 -- ---- rules over the plane
 
-has-layers : (content : Content) (rs : List Rule) → list_all (has_layers content) rs ≡ true → AllByRecursion (HasLayers content) rs
-has-layers content [] h = tt
-has-layers content (r ∷ rs) h =
-    let parts = both_of (has_layers content r) (list_all (has_layers content) rs) h in
-    let layers = both_of (has_layer content r.first) (has_layer content r.second) parts.0 in
-    ((layers.0, layers.1), has-layers content rs parts.1)
-
 pub rules-of-files-hold : RulesOfFilesHold
 rules-of-files-hold text ruled fits e =
     let is = files-are-ruled-well text ruled fits e in
-    (rules_are_over_the_plane ruled.content ruled.rules is.content (has-layers ruled.content ruled.rules is.settled.layers)).0 is.settled.held
+    is_settled-kept ruled is.content is.settled

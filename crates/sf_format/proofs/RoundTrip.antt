@@ -43,7 +43,7 @@ use Rattle.sf_format.proofs.Continuations.{column_after_type, column_after_numbe
 use Rattle.sf_format.proofs.Counts.{below_from_cmp, column-count, feature-count, value-count}
 use Rattle.sf_format.proofs.Names.{distinct-fresh, name-again}
 use Rattle.sf_format.proofs.Rules.{allowed-ok, both}
-use Rattle.sf_format.proofs.RulesAgain.{rules-again}
+use Rattle.sf_format.proofs.RulesAgain.{MayHave, any-may, layers-may, rules-again}
 use Rattle.sf_format.proofs.Values.{typed-again}
 use Rattle.sf_format.proofs.Rows.{HasRows, IsRow, narrow-rows, wide-rows}
 
@@ -310,23 +310,24 @@ first-head place rest = ap (λ r. and_then r on_grid) (Again-field (bytes 8) ver
 
 -- the layers and the rules of a well-formed content with rules, of a version that has both, behind its head
 ruled-again : (version : Version) (front : List ℕ) (ruled : Ruled) → Again head front version → IsRuledWell ruled → AllByRecursion (HasRows (read_in (grid_of version))) (values_of ruled.content)
-    → ((content : Content) → rules_in version content ≡ rules content) → ruled_content_of (front ++ (layers_bytes ruled.content ++ rules_bytes ruled.rules)) ≡ Ok ruled
-ruled-again version front ruled first is rows same =
+    → AllByRecursion (λ r. MayHave version r.says) ruled.rules → ((content : Content) → rules_in version content ≡ rules version content) → ruled_content_of (front ++ (layers_bytes ruled.content ++ rules_bytes ruled.rules)) ≡ Ok ruled
+ruled-again version front ruled first is rows may same =
     whole-again version front (rules_bytes ruled.rules) ruled.content ruled.rules first (content-again (read_in (grid_of version)) ruled.content rows is.content)
     (subst (λ (read : Reading (List Rule)). Again read (rules_bytes ruled.rules) ruled.rules) (sym (same ruled.content))
-    (rules-again ruled.content ruled.rules is.content.named is.settled.named.few is.rules is.settled.named.distinct is.settled.layers is.settled.held))
+    (rules-again version ruled.content ruled.rules is.content is.settled.named.few is.rules may is.settled.named.distinct is.settled.there is.settled.held))
 
 pub ruled-loads : RuledBytesLoad
-ruled-loads ruled is = ruled-again Fourth front ruled fourth-head is (wide-rows ruled.content is.content) (λ content. refl)
+ruled-loads ruled is = ruled-again Fourth front ruled fourth-head is (wide-rows ruled.content is.content) (any-may ruled.rules) (λ content. refl)
 
 pub third-canonical-loads : ThirdCanonicalBytesLoad
-third-canonical-loads ruled is on = ruled-again Third (codes "SFSTORE3" ++ 24 ∷ []) ruled third-head is (narrow-rows Bits24 ruled.content is.content on) (λ content. refl)
+third-canonical-loads ruled is of on =
+    ruled-again Third (codes "SFSTORE3" ++ 24 ∷ []) ruled third-head is (narrow-rows Bits24 ruled.content is.content on) (layers-may ruled.rules of) (λ content. refl)
 
 -- a content without rules
 plain-loads : (content : Content) → IsWellFormed content → ruled_content_of (canonical content) ≡ Ok (record { content = content; rules = [] })
 plain-loads content is =
     whole-again Fourth front (rules_bytes []) content [] fourth-head (content-again (read_in Bits31) content (wide-rows content is) is)
-    (rules-again content [] is.named (omega arith) tt tt refl refl)
+    (rules-again Fourth content [] is (omega arith) tt tt tt refl refl)
 
 pub canonical-loads : CanonicalBytesLoad
 canonical-loads content is = ap content_in (plain-loads content is)

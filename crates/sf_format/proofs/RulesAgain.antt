@@ -2,7 +2,7 @@
 use Rattle.std.proofs.Common.{◌≡◌, ◌+◌, ◌<◌, ◌≤◌, ℕ, Bool, true, false, cond, not, List, [], ◌∷◌, ◌++◌, map, length, Option, Some, None, IsTrue, Ok, bytes_eq, option_map, refl, sym, ap, subst, ◌∙◌, append_assoc, arith}
 use Rattle.std.specs.Prelude.{is_some}
 use Rattle.std.specs.List.{flat_map, list_all, AllByRecursion}
-use Rattle.std.specs.Map.{keys_of}
+use Rattle.std.specs.Map.{keys_of, values_of}
 use Rattle.std.proofs.lemmas.Slice.Eq.{bytes_eq-Decides}
 use Rattle.byteorder.specs.Endian.{big_bytes}
 use Rattle.sf_known.specs.declared.letter.Letter.{Letter}
@@ -14,22 +14,30 @@ use Rattle.sf_ruled_store.specs.Ruling.{Ask}
 use Rattle.sf_ruled_store.specs.Ruling.{Matching, Named}
 use Rattle.sf_features.specs.Columns.{IsDistinct}
 use Rattle.sf_features.specs.Names.{is_name}
-use Rattle.sf_layers.specs.Content.{Content, has_layer, layer_of}
+use Rattle.sf_features.specs.Columns.{named}
+use Rattle.sf_features.specs.declared.column.Column.{Column}
+use Rattle.sf_layers.specs.Content.{Content, LayerContent, has_layer, layer_of}
+use Rattle.sf_layers.specs.WellFormed.{IsColumn, IsLayer, IsWellFormed}
 use Rattle.sf_ruled_store.specs.Ruling.{HasNineLetters}
 use Rattle.sf_ruled_store.specs.Ruling.{Break}
 use Rattle.sf_ruled_store.specs.Ruling.{Broken}
-use Rattle.sf_ruled_store.specs.Ruling.{Rule}
+use Rattle.sf_ruled_store.specs.Ruling.{Rule, Says, OfLayers, OfValues}
+use Rattle.sf_ruled_store.specs.Ruling.{LayerRule, ValueRule}
 use Rattle.sf_ruled_store.specs.Ruling.{Form}
 use Rattle.sf_ruled_store.specs.Ruling.{Never, Each}
+use Rattle.sf_ruled_store.specs.Ruling.{Demand, Required, Unique}
 use Rattle.sf_ruled_store.specs.Ruling.{break_of, broken_from, broken_or}
-use Rattle.sf_ruled_store.specs.Ruled.{has_layers, has_rule}
-use Rattle.sf_format.specs.declared.defect.Defect.TheVariants.{BadFile, BadPattern, NoLayer, RuleBroken, RuleExists}
+use Rattle.sf_ruled_store.specs.Ruled.{has_column_in, has_named, has_rule, has_said}
+use Rattle.sf_format.specs.declared.rule_form.RuleForm.TheVariants.{Between, OnValues}
+use Rattle.sf_format.specs.declared.version.Version.{Version}
+use Rattle.sf_format.specs.declared.version.Version.TheVariants.{First, Second, Third, Fourth}
+use Rattle.sf_format.specs.declared.defect.Defect.TheVariants.{BadFile, BadPattern, NoColumn, NoLayer, RuleBroken, RuleExists}
 use Rattle.sf_format.specs.Readings.{◌>>=◌, bytes, field, number, items}
-use Rattle.sf_format.specs.Format.{ask, asked_by, form_of_byte, fresh_rule_name, held_rule, known_layer_name, name, present, rule, rules, unbroken}
-use Rattle.sf_format.specs.Canonical.{ask_bytes, behind_length, form_byte, predicate_byte, rule_bytes, rules_bytes}
-use Rattle.sf_format.specs.Laws.{IsRule}
+use Rattle.sf_format.specs.Format.{ask, asked_by, form_of_byte, fresh_rule_name, held_rule, known_column_name, known_layer_name, name, present, rule, rules, said, unbroken}
+use Rattle.sf_format.specs.Canonical.{ask_bytes, behind_length, demand_byte, form_byte, predicate_byte, rule_bytes, rules_bytes, says_bytes}
+use Rattle.sf_format.specs.Laws.{AsksForNine, IsOfLayers, IsRule, IsSaidOfLayers}
 use Rattle.sf_format.proofs.Again.{Again, Again-bytes, Again-done, Again-field, Again-items, Again-made, Again-number, Again-number_field, Again-then, Again-value, EachAgain}
-use Rattle.sf_format.proofs.Continuations.{rule_after_ask, rule_after_first, rule_after_form, rule_after_name}
+use Rattle.sf_format.proofs.Continuations.{rule_after_form, rule_after_name, said_after_ask, said_after_first, said_after_layer}
 use Rattle.sf_format.proofs.Rules.{allowed-ok, both_of}
 use Rattle.sf_format.proofs.Names.{distinct-fresh, name-again}
 use Rattle.sf_format.proofs.TakenNames.{taken}
@@ -61,46 +69,101 @@ asked-again (Matching pattern) nine =
 ask-again : (asked : Ask) → HasNineLetters asked → Again ask (ask_bytes asked) asked
 ask-again asked nine = Again-field (number 1 >>= asked_by) (λ found. present found BadPattern) (ask_bytes asked) (Some asked) asked (asked-again asked nine) refl
 
--- ---- a rule
+-- ---- what a rule says
+
+-- files of a version may have such a rule
+abbrev pub MayHave : Version → Says → Type 0
+MayHave Fourth says = Unit {0}
+MayHave version (OfLayers rule) = Unit {0}
+MayHave version (OfValues rule) = ⊥
 
 form_byte-fits : (form : Form) → form_byte form < 256
 form_byte-fits Never = omega arith
 form_byte-fits Each = omega arith
 
-form-again : (form : Form) → present (form_of_byte (form_byte form)) BadFile ≡ Ok form
-form-again Never = refl
-form-again Each = refl
+demand_byte-fits : (demand : Demand) → demand_byte demand < 256
+demand_byte-fits Unique = omega arith
+demand_byte-fits Required = omega arith
+
+form-again : (version : Version) (form : Form) → present (form_of_byte version (form_byte form)) BadFile ≡ Ok (Between form)
+form-again First Never = refl
+form-again First Each = refl
+form-again Second Never = refl
+form-again Second Each = refl
+form-again Third Never = refl
+form-again Third Each = refl
+form-again Fourth Never = refl
+form-again Fourth Each = refl
+
+demand-again : (demand : Demand) → present (form_of_byte Fourth (demand_byte demand)) BadFile ≡ Ok (OnValues demand)
+demand-again Unique = refl
+demand-again Required = refl
+
+-- all that a rule names is there, and has a name
+abbrev pub CanSay : Content → Says → Type 0
+CanSay content (OfLayers rule) =
+    HasNineLetters rule.ask × (has_layer content rule.first ≡ true) × (has_layer content rule.second ≡ true) × (is_name rule.first ≡ true) × (is_name rule.second ≡ true)
+CanSay content (OfValues rule) =
+    (has_layer content rule.layer ≡ true) × (has_column_in rule.column (layer_of content rule.layer) ≡ true) × (is_name rule.layer ≡ true) × (is_name rule.column ≡ true)
+
+layers-again : (content : Content) (r : LayerRule) → CanSay content (OfLayers r)
+    → Again (said content (Between r.form)) (behind_length 1 r.first ++ (ask_bytes r.ask ++ behind_length 1 r.second)) (OfLayers r)
+layers-again content r can =
+    let back = behind_length 1 r.second in
+    let middle = ask_bytes r.ask ++ back in
+    Again-then (field name (known_layer_name content)) (said_after_first content r.form) (behind_length 1 r.first) middle r.first (OfLayers r)
+    (Again-field name (known_layer_name content) (behind_length 1 r.first) r.first r.first (name-again r.first can.3) (allowed-ok _ NoLayer r.first can.1))
+    (Again-then ask (said_after_ask content r.form r.first) (ask_bytes r.ask) back r.ask (OfLayers r)
+    (ask-again r.ask can.0)
+    (Again-made (field name (known_layer_name content)) (λ second. OfLayers (record { form = r.form; first = r.first; ask = r.ask; second = second })) back r.second
+    (Again-field name (known_layer_name content) back r.second r.second (name-again r.second can.4) (allowed-ok _ NoLayer r.second can.2))))
+
+values-again : (content : Content) (r : ValueRule) → CanSay content (OfValues r)
+    → Again (said content (OnValues r.demand)) (behind_length 1 r.layer ++ behind_length 1 r.column) (OfValues r)
+values-again content r can =
+    let back = behind_length 1 r.column in
+    Again-then (field name (known_layer_name content)) (said_after_layer content r.demand) (behind_length 1 r.layer) back r.layer (OfValues r)
+    (Again-field name (known_layer_name content) (behind_length 1 r.layer) r.layer r.layer (name-again r.layer can.2) (allowed-ok _ NoLayer r.layer can.0))
+    (Again-made (field name (known_column_name content r.layer)) (λ column. OfValues (record { demand = r.demand; layer = r.layer; column = column })) back r.column
+    (Again-field name (known_column_name content r.layer) back r.column r.column (name-again r.column can.3) (allowed-ok _ NoColumn r.column can.1)))
+
+says-again : (version : Version) (content : Content) (title : List ℕ) (says : Says) → MayHave version says → CanSay content says
+    → Again (rule_after_name version content title) (says_bytes says) (record { name = title; says = says })
+says-again version content title (OfLayers r) may can =
+    let back = behind_length 1 r.first ++ (ask_bytes r.ask ++ behind_length 1 r.second) in
+    let whole : Rule = record { name = title; says = OfLayers r } in
+    Again-then (field (number 1) (λ byte. present (form_of_byte version byte) BadFile)) (rule_after_form content title) (big_bytes 1 (form_byte r.form)) back (Between r.form) whole
+    (Again-number_field 1 (form_byte r.form) (λ byte. present (form_of_byte version byte) BadFile) (Between r.form) (omega (arith, form_byte-fits r.form)) (form-again version r.form))
+    (Again-made (said content (Between r.form)) (λ says. record { name = title; says = says }) back (OfLayers r) (layers-again content r can))
+says-again Fourth content title (OfValues r) may can =
+    let back = behind_length 1 r.layer ++ behind_length 1 r.column in
+    let whole : Rule = record { name = title; says = OfValues r } in
+    Again-then (field (number 1) (λ byte. present (form_of_byte Fourth byte) BadFile)) (rule_after_form content title) (big_bytes 1 (demand_byte r.demand)) back (OnValues r.demand) whole
+    (Again-number_field 1 (demand_byte r.demand) (λ byte. present (form_of_byte Fourth byte) BadFile) (OnValues r.demand) (omega (arith, demand_byte-fits r.demand)) (demand-again r.demand))
+    (Again-made (said content (OnValues r.demand)) (λ says. record { name = title; says = says }) back (OfValues r) (values-again content r can))
+says-again First content title (OfValues r) may can = absurd may
+says-again Second content title (OfValues r) may can = absurd may
+says-again Third content title (OfValues r) may can = absurd may
+
+-- ---- a rule
 
 -- a rule that can be read behind others
-record CanFollow (content : Content) (earlier : List Rule) (r : Rule) : Type 0 where
+record CanFollow (version : Version) (content : Content) (earlier : List Rule) (r : Rule) : Type 0 where
   is : IsRule r
+  may : MayHave version r.says
   free : has_rule r.name earlier ≡ false
-  first : has_layer content r.first ≡ true
-  second : has_layer content r.second ≡ true
-  first_named : is_name r.first ≡ true
-  second_named : is_name r.second ≡ true
+  can : CanSay content r.says
   held : break_of content r ≡ None
 
-rule-again : (content : Content) (earlier : List Rule) (r : Rule) → CanFollow content earlier r → Again (rule content earlier) (rule_bytes r) r
-rule-again content earlier r can =
-    let t4 = behind_length 1 r.second in
-    let t3 = ask_bytes r.ask ++ t4 in
-    let t2 = behind_length 1 r.first ++ t3 in
-    let t1 = big_bytes 1 (form_byte r.form) ++ t2 in
-    Again-then (field name (fresh_rule_name earlier)) (rule_after_name content) (behind_length 1 r.name) t1 r.name r
+rule-again : (version : Version) (content : Content) (earlier : List Rule) (r : Rule) → CanFollow version content earlier r → Again (rule version content earlier) (rule_bytes r) r
+rule-again version content earlier r can =
+    Again-then (field name (fresh_rule_name earlier)) (rule_after_name version content) (behind_length 1 r.name) (says_bytes r.says) r.name r
     (Again-field name (fresh_rule_name earlier) (behind_length 1 r.name) r.name r.name (name-again r.name can.is.named) (allowed-ok _ RuleExists r.name (ap not can.free)))
-    (Again-then (field (number 1) (λ byte. present (form_of_byte byte) BadFile)) (rule_after_form content r.name) (big_bytes 1 (form_byte r.form)) t2 r.form r
-    (Again-number_field 1 (form_byte r.form) (λ byte. present (form_of_byte byte) BadFile) r.form (omega (arith, form_byte-fits r.form)) (form-again r.form))
-    (Again-then (field name (known_layer_name content)) (rule_after_first content r.name r.form) (behind_length 1 r.first) t3 r.first r
-    (Again-field name (known_layer_name content) (behind_length 1 r.first) r.first r.first (name-again r.first can.first_named) (allowed-ok _ NoLayer r.first can.first))
-    (Again-then ask (rule_after_ask content r.name r.form r.first) (ask_bytes r.ask) t4 r.ask r
-    (ask-again r.ask can.is.nine)
-    (Again-made (field name (known_layer_name content)) (λ second. record { name = r.name; form = r.form; first = r.first; ask = r.ask; second = second }) t4 r.second
-    (Again-field name (known_layer_name content) (behind_length 1 r.second) r.second r.second (name-again r.second can.second_named) (allowed-ok _ NoLayer r.second can.second))))))
+    (says-again version content r.name r.says can.may can.can)
 
-held-again : (content : Content) (earlier : List Rule) (r : Rule) → CanFollow content earlier r → Again (held_rule content earlier) (rule_bytes r) r
-held-again content earlier r can =
-    Again-field (rule content earlier) (unbroken content) (rule_bytes r) r r (rule-again content earlier r can) (allowed-ok _ RuleBroken r (ap (λ o. not (is_some o)) can.held))
+held-again : (version : Version) (content : Content) (earlier : List Rule) (r : Rule) → CanFollow version content earlier r → Again (held_rule version content earlier) (rule_bytes r) r
+held-again version content earlier r can =
+    Again-field (rule version content earlier) (unbroken content) (rule_bytes r) r r (rule-again version content earlier r can) (allowed-ok _ RuleBroken r (ap (λ o. not (is_some o)) can.held))
 
 -- ---- rules
 
@@ -113,47 +176,91 @@ layer-named title (entry ∷ entries) named there = by_test (bytes_eq title entr
     by_test true is later h = ap is_name ((bytes_eq-Decides title entry.0).0 is) ∙ named.0
     by_test false is later h = later h
 
+-- so is that of a column that is there
+column-in : (title : List ℕ) (next : ℕ) (columns : List Column) → AllByRecursion (IsColumn next) columns → is_some (named columns title) ≡ true → is_name title ≡ true
+column-in title next [] are there = absurd cc
+column-in title next (c ∷ cs) are there = by_test (bytes_eq title c.name) refl (column-in title next cs are.1) there
+  where
+    by_test : (b : Bool) → bytes_eq title c.name ≡ b → (is_some (named cs title) ≡ true → is_name title ≡ true) → is_some (cond b (Some c) (named cs title)) ≡ true → is_name title ≡ true
+    by_test true is later h = ap is_name ((bytes_eq-Decides title c.name).0 is) ∙ are.0.0
+    by_test false is later h = later h
+
+column-named : (column title : List ℕ) (content : Content) → AllByRecursion IsLayer (values_of content) → has_column_in column (layer_of content title) ≡ true → is_name column ≡ true
+column-named column title [] are there = absurd cc
+column-named column title (entry ∷ entries) are there = by_test (bytes_eq title entry.0) (column-named column title entries are.1) there
+  where
+    by_test : (b : Bool) → (has_column_in column (layer_of entries title) ≡ true → is_name column ≡ true) → has_column_in column (cond b (Some entry.1) (layer_of entries title)) ≡ true → is_name column ≡ true
+    by_test true later h = column-in column entry.1.next_column entry.1.columns are.0.columns h
+    by_test false later h = later h
+
+-- a layer that has a column is there
+layer-there : (column : List ℕ) (o : Option LayerContent) → has_column_in column o ≡ true → is_some o ≡ true
+layer-there column None h = absurd cc
+layer-there column (Some layer) h = refl
+
+can-say : (content : Content) (says : Says) → IsWellFormed content → AsksForNine says → has_said content says ≡ true → CanSay content says
+can-say content (OfLayers r) fine nine there =
+    let both = both_of (has_layer content r.first) (has_layer content r.second) there in
+    (nine, both.0, both.1, layer-named r.first content fine.named both.0, layer-named r.second content fine.named both.1)
+can-say content (OfValues r) fine nine there =
+    let here = layer-there r.column (layer_of content r.layer) there in
+    (here, there, layer-named r.layer content fine.named here, column-named r.column r.layer content fine.layers there)
+
 -- a rule that is the first to be broken is broken, and one that is broken comes first or behind another
 first-unbroken : (place : ℕ) (b : Option Break) (later : Option Broken) → broken_or place b later ≡ None → (b ≡ None) × (later ≡ None)
 first-unbroken place None later h = (refl, h)
 first-unbroken place (Some least) later h = absurd cc
 
--- settled rules between layers of the content, each of which has a name of its own
-record AreToFollow (content : Content) (place : ℕ) (earlier rs : List Rule) : Type 0 where
+-- settled rules of which all that they name is there, and each has a name of its own
+record AreToFollow (version : Version) (content : Content) (place : ℕ) (earlier rs : List Rule) : Type 0 where
   are : AllByRecursion IsRule rs
+  may : AllByRecursion (λ r. MayHave version r.says) rs
   distinct : IsDistinct bytes_eq (map (λ r. r.name) (earlier ++ rs))
-  layers : list_all (has_layers content) rs ≡ true
+  there : list_all (has_named content) rs ≡ true
   held : broken_from place content rs ≡ None
 
-rules-follow : (content : Content) → AllByRecursion (λ name. IsTrue (is_name name)) (keys_of content) → (place : ℕ) (earlier rs : List Rule) → AreToFollow content place earlier rs
-    → EachAgain (held_rule content) rule_bytes earlier rs
-rules-follow content named place earlier [] can = tt
-rules-follow content named place earlier (r ∷ rs) can =
+rules-follow : (version : Version) (content : Content) → IsWellFormed content → (place : ℕ) (earlier rs : List Rule) → AreToFollow version content place earlier rs
+    → EachAgain (held_rule version content) rule_bytes earlier rs
+rules-follow version content fine place earlier [] can = tt
+rules-follow version content fine place earlier (r ∷ rs) can =
     let regrouped : earlier ++ r ∷ rs ≡ (earlier ++ r ∷ []) ++ rs = sym (append_assoc earlier (r ∷ []) rs) in
-    let there = both_of (has_layers content r) (list_all (has_layers content) rs) can.layers in
-    let layers = both_of (has_layer content r.first) (has_layer content r.second) there.0 in
+    let there = both_of (has_named content r) (list_all (has_named content) rs) can.there in
     let unbroken = first-unbroken place (break_of content r) (broken_from (place + 1) content rs) can.held in (
-      held-again content earlier r (record {
+      held-again version content earlier r (record {
         is = can.are.0;
+        may = can.may.0;
         free = taken r.name earlier ∙ (distinct-fresh bytes_eq (λ r. r.name) earlier r rs can.distinct);
-        first = layers.0;
-        second = layers.1;
-        first_named = layer-named r.first content named layers.0;
-        second_named = layer-named r.second content named layers.1;
+        can = can-say content r.says fine can.are.0.nine there.0;
         held = unbroken.0;
       }),
-      rules-follow content named (place + 1) (earlier ++ r ∷ []) rs (record {
+      rules-follow version content fine (place + 1) (earlier ++ r ∷ []) rs (record {
         are = can.are.1;
+        may = can.may.1;
         distinct = subst (λ (all : List Rule). IsDistinct bytes_eq (map (λ r. r.name) all)) regrouped can.distinct;
-        layers = there.1;
+        there = there.1;
         held = unbroken.1;
       }),
     )
 
+-- all rules may stand in a file of the fourth version
+pub any-may : (rs : List Rule) → AllByRecursion (λ r. MayHave Fourth r.says) rs
+any-may [] = tt
+any-may (r ∷ rs) = (tt, any-may rs)
+
+-- those between layers in one of the third
+pub layers-may : (rs : List Rule) → AllByRecursion IsOfLayers rs → AllByRecursion (λ r. MayHave Third r.says) rs
+layers-may [] are = tt
+layers-may (r ∷ rs) are = (by r.says are.0, layers-may rs are.1)
+  where
+    by : (says : Says) → IsSaidOfLayers says → MayHave Third says
+    by (OfLayers rule) is = tt
+    by (OfValues rule) is = absurd is
+
 -- the rules of a well-formed content
-pub rules-again : (content : Content) (rs : List Rule) → AllByRecursion (λ name. IsTrue (is_name name)) (keys_of content) → length rs ≤ 65535 → AllByRecursion IsRule rs
-    → IsDistinct bytes_eq (map (λ r. r.name) rs) → list_all (has_layers content) rs ≡ true → broken_from 0 content rs ≡ None → Again (rules content) (rules_bytes rs) rs
-rules-again content rs named few are distinct layers held =
-    Again-then (number 2) (λ count. items (held_rule content) count []) (big_bytes 2 (length rs)) (flat_map rule_bytes rs) (length rs) rs
+pub rules-again : (version : Version) (content : Content) (rs : List Rule) → IsWellFormed content → length rs ≤ 65535 → AllByRecursion IsRule rs → AllByRecursion (λ r. MayHave version r.says) rs
+    → IsDistinct bytes_eq (map (λ r. r.name) rs) → list_all (has_named content) rs ≡ true → broken_from 0 content rs ≡ None → Again (rules version content) (rules_bytes rs) rs
+rules-again version content rs fine few are may distinct there held =
+    Again-then (number 2) (λ count. items (held_rule version content) count []) (big_bytes 2 (length rs)) (flat_map rule_bytes rs) (length rs) rs
     (Again-number 2 (length rs) (omega (arith, few)))
-    (Again-items (held_rule content) rule_bytes [] rs (rules-follow content named 0 [] rs (record { are = are; distinct = distinct; layers = layers; held = held })))
+    (Again-items (held_rule version content) rule_bytes [] rs
+    (rules-follow version content fine 0 [] rs (record { are = are; may = may; distinct = distinct; there = there; held = held })))

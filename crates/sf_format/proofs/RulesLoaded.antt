@@ -9,18 +9,20 @@ use Rattle.sf_known.specs.Patterns.{letter_of, letters_of, pattern_of}
 use Rattle.sf_ruled_store.specs.Ruling.{Matching, Named}
 use Rattle.sf_features.specs.Columns.{IsDistinct}
 use Rattle.sf_features.specs.Names.{is_name}
-use Rattle.sf_layers.specs.Content.{Content, has_layer}
+use Rattle.sf_layers.specs.Content.{Content, has_layer, layer_of}
 use Rattle.sf_ruled_store.specs.Ruling.{HasNineLetters}
-use Rattle.sf_ruled_store.specs.Ruling.{Rule}
+use Rattle.sf_ruled_store.specs.Ruling.{Rule, Says, OfLayers, OfValues}
 use Rattle.sf_ruled_store.specs.Ruling.{break_of, broken_from, broken_or}
-use Rattle.sf_ruled_store.specs.Ruled.{has_layers, has_rule, rules_max}
+use Rattle.sf_ruled_store.specs.Ruled.{has_column_in, has_named, has_rule, has_said, rules_max}
+use Rattle.sf_format.specs.declared.rule_form.RuleForm.{RuleForm}
+use Rattle.sf_format.specs.declared.rule_form.RuleForm.TheVariants.{Between, OnValues}
 use Rattle.sf_format.specs.declared.version.Version.{Version}
 use Rattle.sf_format.specs.declared.version.Version.TheVariants.{First, Second, Third, Fourth}
-use Rattle.sf_format.specs.declared.defect.Defect.TheVariants.{BadFile, BadPattern, NoLayer, RuleBroken, RuleExists}
+use Rattle.sf_format.specs.declared.defect.Defect.TheVariants.{BadFile, BadPattern, NoColumn, NoLayer, RuleBroken, RuleExists}
 use Rattle.sf_format.specs.Readings.{◌>>=◌, bytes, done, field, number, items}
-use Rattle.sf_format.specs.Format.{ask, asked_by, form_of_byte, fresh_rule_name, held_rule, known_layer_name, name, predicate_of_byte, present, rule, rules, rules_in, unbroken}
-use Rattle.sf_format.specs.Laws.{AreBytes, IsRule}
-use Rattle.sf_format.proofs.Continuations.{rule_after_ask, rule_after_first, rule_after_form, rule_after_name}
+use Rattle.sf_format.specs.Format.{ask, asked_by, form_of_byte, fresh_rule_name, held_rule, known_column_name, known_layer_name, name, predicate_of_byte, present, rule, rules, rules_in, said, unbroken}
+use Rattle.sf_format.specs.Laws.{AreBytes, AsksForNine, IsRule}
+use Rattle.sf_format.proofs.Continuations.{rule_after_form, rule_after_name, said_after_ask, said_after_first, said_after_layer}
 use Rattle.sf_format.proofs.Promises.{Promises, Promises-bytes, Promises-done, Promises-field, Promises-items, Promises-number, Promises-rule, Promises-then, and_then_ok}
 use Rattle.sf_format.proofs.Pushed.{all-more, distinct-push, items-length, name-promises}
 use Rattle.sf_format.proofs.TakenNames.{taken}
@@ -69,50 +71,74 @@ ask-promises = Promises-field (number 1 >>= asked_by) (λ found. present found B
 
 -- ---- a rule
 
--- a rule behind others: it has a name of its own, and is between layers of the content
+-- a rule behind others: it has a name of its own, and all that it names is there
 abbrev pub IsNewRule : Content → List Rule → Rule → Type 0
-IsNewRule content earlier r = IsRule r × (has_rule r.name earlier ≡ false) × (has_layer content r.first ≡ true) × (has_layer content r.second ≡ true)
+IsNewRule content earlier r = IsRule r × (has_rule r.name earlier ≡ false) × (has_named content r ≡ true)
+
+two : (a b : Bool) → a ≡ true → b ≡ true → (a && b) ≡ true
+two true b p q = q
+two false b p q = absurd cc
 
 known-promises : (content : Content) → Promises (field name (known_layer_name content)) (λ title. has_layer content title ≡ true)
 known-promises content = Promises-field name (known_layer_name content) (λ title. IsTrue (is_name title)) (λ title. has_layer content title ≡ true) name-promises
     (λ x y named e. let r = allowed_of (has_layer content x) NoLayer x y e in subst (λ t. has_layer content t ≡ true) r.1 r.0)
 
+column-promises : (content : Content) (layer : List ℕ) → Promises (field name (known_column_name content layer)) (λ title. has_column_in title (layer_of content layer) ≡ true)
+column-promises content layer =
+    Promises-field name (known_column_name content layer) (λ title. IsTrue (is_name title)) (λ title. has_column_in title (layer_of content layer) ≡ true) name-promises
+    (λ x y named e. let r = allowed_of (has_column_in x (layer_of content layer)) NoColumn x y e in subst (λ t. has_column_in t (layer_of content layer) ≡ true) r.1 r.0)
+
+-- all that it names is there
+abbrev pub IsSaid : Content → Says → Type 0
+IsSaid content says = AsksForNine says × (has_said content says ≡ true)
+
+said-promises : (content : Content) (form : RuleForm) → Promises (said content form) (IsSaid content)
+said-promises content (Between form) =
+    Promises-then (field name (known_layer_name content)) (said_after_first content form) (λ first. has_layer content first ≡ true) (IsSaid content) (known-promises content)
+    (λ first here. Promises-then ask (said_after_ask content form first) HasNineLetters (IsSaid content) ask-promises
+    (λ asked nine. Promises-then (field name (known_layer_name content)) (λ second. done (OfLayers (record { form = form; first = first; ask = asked; second = second })))
+    (λ second. has_layer content second ≡ true) (IsSaid content) (known-promises content)
+    (λ second there. Promises-done (IsSaid content) (OfLayers (record { form = form; first = first; ask = asked; second = second }))
+    (nine, two (has_layer content first) (has_layer content second) here there))))
+said-promises content (OnValues demand) =
+    Promises-then (field name (known_layer_name content)) (said_after_layer content demand) (λ layer. has_layer content layer ≡ true) (IsSaid content) (known-promises content)
+    (λ layer here. Promises-then (field name (known_column_name content layer)) (λ column. done (OfValues (record { demand = demand; layer = layer; column = column })))
+    (λ column. has_column_in column (layer_of content layer) ≡ true) (IsSaid content) (column-promises content layer)
+    (λ column there. Promises-done (IsSaid content) (OfValues (record { demand = demand; layer = layer; column = column })) (tt, there)))
+
 abbrev pub IsNewName : List Rule → List ℕ → Type 0
 IsNewName earlier title = IsTrue (is_name title) × (has_rule title earlier ≡ false)
 
-rule-promises : (content : Content) (earlier : List Rule) → Promises (rule content earlier) (IsNewRule content earlier)
-rule-promises content earlier =
-    Promises-then (field name (fresh_rule_name earlier)) (rule_after_name content) (IsNewName earlier) (IsNewRule content earlier)
+rule-promises : (version : Version) (content : Content) (earlier : List Rule) → Promises (rule version content earlier) (IsNewRule content earlier)
+rule-promises version content earlier =
+    Promises-then (field name (fresh_rule_name earlier)) (rule_after_name version content) (IsNewName earlier) (IsNewRule content earlier)
     (Promises-field name (fresh_rule_name earlier) (λ title. IsTrue (is_name title)) (IsNewName earlier) name-promises
     (λ x y named e. let r = allowed_of (not (has_rule x earlier)) RuleExists x y e in subst (IsNewName earlier) r.1 (named, not_true (has_rule x earlier) r.0)))
-    (λ title new. Promises-then (field (number 1) (λ byte. present (form_of_byte byte) BadFile)) (rule_after_form content title) (λ form. Unit {0}) (IsNewRule content earlier)
-    (Promises-rule 1 (λ byte. present (form_of_byte byte) BadFile) (λ form. Unit {0}) (λ n y fits e. tt))
-    (λ form any. Promises-then (field name (known_layer_name content)) (rule_after_first content title form) (λ first. has_layer content first ≡ true) (IsNewRule content earlier) (known-promises content)
-    (λ first here. Promises-then ask (rule_after_ask content title form first) HasNineLetters (IsNewRule content earlier) ask-promises
-    (λ asked nine. Promises-then (field name (known_layer_name content)) (λ second. done (record { name = title; form = form; first = first; ask = asked; second = second }))
-    (λ second. has_layer content second ≡ true) (IsNewRule content earlier) (known-promises content)
-    (λ second there. Promises-done (IsNewRule content earlier) (record { name = title; form = form; first = first; ask = asked; second = second })
-    (record { named = new.0; nine = nine }, new.1, here, there))))))
+    (λ title new. Promises-then (field (number 1) (λ byte. present (form_of_byte version byte) BadFile)) (rule_after_form content title) (λ form. Unit {0}) (IsNewRule content earlier)
+    (Promises-rule 1 (λ byte. present (form_of_byte version byte) BadFile) (λ form. Unit {0}) (λ n y fits e. tt))
+    (λ form any. Promises-then (said content form) (λ says. done (record { name = title; says = says })) (IsSaid content) (IsNewRule content earlier) (said-promises content form)
+    (λ says is. Promises-done (IsNewRule content earlier) (record { name = title; says = says }) (record { named = new.0; nine = is.0 }, new.1, is.1))))
 
 abbrev pub IsHeldRule : Content → List Rule → Rule → Type 0
 IsHeldRule content earlier r = IsNewRule content earlier r × (break_of content r ≡ None)
 
-held-promises : (content : Content) (earlier : List Rule) → Promises (held_rule content earlier) (IsHeldRule content earlier)
-held-promises content earlier = Promises-field (rule content earlier) (unbroken content) (IsNewRule content earlier) (IsHeldRule content earlier) (rule-promises content earlier)
+held-promises : (version : Version) (content : Content) (earlier : List Rule) → Promises (held_rule version content earlier) (IsHeldRule content earlier)
+held-promises version content earlier =
+    Promises-field (rule version content earlier) (unbroken content) (IsNewRule content earlier) (IsHeldRule content earlier) (rule-promises version content earlier)
     (λ x y new e. let r = allowed_of (not (is_some (break_of content x))) RuleBroken x y e in
     subst (IsHeldRule content earlier) r.1 (new, none_of (break_of content x) (not_true (is_some (break_of content x)) r.0)))
 
 -- ---- rules
 
--- rules between layers of the content, each of a name of its own, of which none is broken
+-- rules each of a name of its own, of which all that they name is there and none is broken
 pub record AreHeld (content : Content) (rs : List Rule) : Type 0 where
   pub are : AllByRecursion IsRule rs
   pub distinct : IsDistinct bytes_eq (map (λ r. r.name) rs)
-  pub layers : list_all (has_layers content) rs ≡ true
+  pub there : list_all (has_named content) rs ≡ true
   pub held : AllByRecursion (λ r. break_of content r ≡ None) rs
 
 none-held : (content : Content) → AreHeld content []
-none-held content = record { are = tt; distinct = tt; layers = refl; held = tt }
+none-held content = record { are = tt; distinct = tt; there = refl; held = tt }
 
 all-push : (test : Rule → Bool) (rs : List Rule) (r : Rule) → list_all test rs ≡ true → test r ≡ true → list_all test (rs ++ r ∷ []) ≡ true
 all-push test [] r all new = ap (λ b. b && true) new
@@ -122,38 +148,34 @@ all-push test (q ∷ qs) r all new = by_test (λ later. all-push test qs r later
     by_test more true all = more all
     by_test more false all = absurd cc
 
-two : (a b : Bool) → a ≡ true → b ≡ true → (a && b) ≡ true
-two true b p q = q
-two false b p q = absurd cc
-
 one-more : (content : Content) (earlier : List Rule) (r : Rule) → AreHeld content earlier → IsHeldRule content earlier r → AreHeld content (earlier ++ r ∷ [])
 one-more content earlier r are is = record {
   are = all-more IsRule earlier r are.are is.0.0;
   distinct = distinct-push bytes_eq (λ r. r.name) earlier r are.distinct (sym (taken r.name earlier) ∙ is.0.1);
-  layers = all-push (has_layers content) earlier r are.layers (two (has_layer content r.first) (has_layer content r.second) is.0.2 is.0.3);
+  there = all-push (has_named content) earlier r are.there is.0.2;
   held = all-more (λ r. break_of content r ≡ None) earlier r are.held is.1;
 }
 
-items-promise : (content : Content) (count : ℕ) → Promises (items (held_rule content) count []) (AreHeld content)
-items-promise content count = Promises-items (held_rule content) (AreHeld content)
-    (λ earlier are left r rest fits e. let p = held-promises content earlier left r rest fits e in (one-more content earlier r are p.0, p.1))
+items-promise : (version : Version) (content : Content) (count : ℕ) → Promises (items (held_rule version content) count []) (AreHeld content)
+items-promise version content count = Promises-items (held_rule version content) (AreHeld content)
+    (λ earlier are left r rest fits e. let p = held-promises version content earlier left r rest fits e in (one-more content earlier r are p.0, p.1))
     count [] (none-held content)
 
 -- they are as many as two bytes can say
 abbrev pub AreKept : Content → List Rule → Type 0
 AreKept content rs = AreHeld content rs × (length rs ≤ rules_max)
 
-rules-promise : (content : Content) → Promises (rules content) (AreKept content)
-rules-promise content left rs rest fits e =
-    let s = and_then_ok (number 2 left) (λ count. items (held_rule content) count []) rs rest e in
+rules-promise : (version : Version) (content : Content) → Promises (rules version content) (AreKept content)
+rules-promise version content left rs rest fits e =
+    let s = and_then_ok (number 2 left) (λ count. items (held_rule version content) count []) rs rest e in
     let count = Promises-number 2 left s.0 s.1 fits s.2 in
-    let are = items-promise content s.0 s.1 rs rest count.1 s.3 in
-    let len = items-length (held_rule content) s.0 [] s.1 rs rest s.3 in
+    let are = items-promise version content s.0 s.1 rs rest count.1 s.3 in
+    let len = items-length (held_rule version content) s.0 [] s.1 rs rest s.3 in
     ((are.0, omega (arith, len, count.0)), are.1)
 
 pub rules-in-promise : (version : Version) (content : Content) → Promises (rules_in version content) (AreKept content)
-rules-in-promise Third content = rules-promise content
-rules-in-promise Fourth content = rules-promise content
+rules-in-promise Third content = rules-promise Third content
+rules-in-promise Fourth content = rules-promise Fourth content
 rules-in-promise First content = Promises-done (AreKept content) [] (none-held content, omega arith)
 rules-in-promise Second content = Promises-done (AreKept content) [] (none-held content, omega arith)
 

@@ -8,9 +8,10 @@ use Rattle.sf_known.specs.declared.predicate.Predicate.{Predicate}
 use Rattle.sf_known.specs.declared.predicate.Predicate.TheVariants as predicates
 use Rattle.sf_ruled_store.specs.Ruling.{Ask}
 use Rattle.sf_ruled_store.specs.Ruling.{Matching, Named}
-use Rattle.sf_ruled_store.specs.Ruling.{Rule}
+use Rattle.sf_ruled_store.specs.Ruling.{Rule, Says, OfLayers, OfValues}
 use Rattle.sf_ruled_store.specs.Ruling.{Form}
 use Rattle.sf_ruled_store.specs.Ruling.{Never, Each}
+use Rattle.sf_ruled_store.specs.Ruling.{Demand, Required, Unique}
 use Rattle.sf_ruled_store.specs.Ruled.{Ruled}
 use Rattle.sf_features.specs.Features.{FeatureContent}
 use Rattle.sf_features.specs.Columns.{numbered}
@@ -111,10 +112,15 @@ layers_bytes content = big_bytes 4 (length content) ++ flat_map layer_bytes cont
 
 -- ---- rules
 
--- the byte of a rule's form
+-- the byte of the form of a rule between layers
 abbrev pub form_byte : Form → ℕ
 form_byte Never = 1
 form_byte Each = 2
+
+-- the byte of what a rule demands of values
+abbrev pub demand_byte : Demand → ℕ
+demand_byte Unique = 3
+demand_byte Required = 4
 
 -- the byte of a named predicate
 abbrev pub predicate_byte : Predicate → ℕ
@@ -132,9 +138,14 @@ abbrev pub ask_bytes : Ask → List ℕ
 ask_bytes (Named predicate) = big_bytes 1 (predicate_byte predicate)
 ask_bytes (Matching pattern) = big_bytes 1 0 ++ pattern_text pattern
 
+-- the bytes of what a rule says, behind the byte of its form
+abbrev pub says_bytes : Says → List ℕ
+says_bytes (OfLayers rule) = big_bytes 1 (form_byte rule.form) ++ (behind_length 1 rule.first ++ (ask_bytes rule.ask ++ behind_length 1 rule.second))
+says_bytes (OfValues rule) = big_bytes 1 (demand_byte rule.demand) ++ (behind_length 1 rule.layer ++ behind_length 1 rule.column)
+
 -- the bytes of a rule, behind its name
 abbrev pub rule_bytes : Rule → List ℕ
-rule_bytes rule = behind_length 1 rule.name ++ (big_bytes 1 (form_byte rule.form) ++ (behind_length 1 rule.first ++ (ask_bytes rule.ask ++ behind_length 1 rule.second)))
+rule_bytes rule = behind_length 1 rule.name ++ says_bytes rule.says
 
 -- the bytes of the rules
 abbrev pub rules_bytes : List Rule → List ℕ
@@ -167,6 +178,6 @@ first_canonical content = codes "SFSTORE1" ++ layers_bytes content
 abbrev pub second_canonical : Content → List ℕ
 second_canonical content = (codes "SFSTORE2" ++ 24 ∷ []) ++ layers_bytes content
 
--- those of the third version, for a content with rules
+-- those of the third version, for a content with rules between layers
 abbrev pub third_canonical : Ruled → List ℕ
 third_canonical ruled = (codes "SFSTORE3" ++ 24 ∷ []) ++ (layers_bytes ruled.content ++ rules_bytes ruled.rules)

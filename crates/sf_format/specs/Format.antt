@@ -25,7 +25,7 @@ use Rattle.sf_decimals.specs.Decimals.{is_decimal}
 use Rattle.sf_dates.specs.declared.day.Day.{Day}
 use Rattle.sf_dates.specs.declared.moment.Moment.{Moment}
 use Rattle.sf_dates.specs.Calendar.{is_day, is_moment}
-use Rattle.sf_layers.specs.Content.{Content, LayerContent, has_layer, admits}
+use Rattle.sf_layers.specs.Content.{Content, LayerContent, has_layer, layer_of, admits}
 use Rattle.sf_layers.specs.WellFormed.{layers_max}
 use Rattle.sf_layers.specs.declared.layer_kind.LayerKind.{LayerKind}
 use Rattle.sf_layers.specs.declared.layer_kind.LayerKind.TheVariants.{Any, Only}
@@ -34,11 +34,13 @@ use Rattle.sf_features.specs.declared.column_type.ColumnType.{ColumnType}
 use Rattle.sf_features.specs.declared.column_type.ColumnType.TheVariants as types
 use Rattle.sf_features.specs.declared.attr_value.AttrValue.{AttrValue}
 use Rattle.sf_features.specs.declared.attr_value.AttrValue.TheVariants as values
-use Rattle.sf_ruled_store.specs.Ruling.{Rule}
-use Rattle.sf_ruled_store.specs.Ruling.{Form}
+use Rattle.sf_ruled_store.specs.Ruling.{Rule, Says, OfLayers, OfValues}
 use Rattle.sf_ruled_store.specs.Ruling.{Never, Each}
+use Rattle.sf_ruled_store.specs.Ruling.{Required, Unique}
 use Rattle.sf_ruled_store.specs.Ruling.{break_of}
-use Rattle.sf_ruled_store.specs.Ruled.{Ruled, has_rule}
+use Rattle.sf_ruled_store.specs.Ruled.{Ruled, has_column_in, has_rule}
+use Rattle.sf_format.specs.declared.rule_form.RuleForm.{RuleForm}
+use Rattle.sf_format.specs.declared.rule_form.RuleForm.TheVariants.{Between, OnValues}
 use Rattle.sf_format.specs.declared.version.Version.{Version}
 use Rattle.sf_format.specs.declared.version.Version.TheVariants.{First, Second, Third, Fourth}
 use Rattle.sf_format.specs.declared.defect.Defect.{Defect}
@@ -233,9 +235,22 @@ fresh_rule_name earlier text = allowed (not (has_rule text earlier)) RuleExists 
 abbrev pub known_layer_name : Content → List ℕ → Result (List ℕ) Defect
 known_layer_name content text = allowed (has_layer content text) NoLayer text
 
--- the form of a rule that a byte stands for
-abbrev pub form_of_byte : ℕ → Option Form
-form_of_byte byte = lookup (nat_eq byte) ((1, Never) ∷ (2, Each) ∷ [])
+-- a name that a column of the layer has
+abbrev pub known_column_name : Content → List ℕ → List ℕ → Result (List ℕ) Defect
+known_column_name content layer text = allowed (has_column_in text (layer_of content layer)) NoColumn text
+
+-- the form of a rule between layers that a byte stands for
+abbrev pub form_between : ℕ → Option RuleForm
+form_between byte = lookup (nat_eq byte) ((1, Between Never) ∷ (2, Between Each) ∷ [])
+
+-- the form of any rule
+abbrev pub any_form : ℕ → Option RuleForm
+any_form byte = lookup (nat_eq byte) ((1, Between Never) ∷ (2, Between Each) ∷ (3, OnValues Unique) ∷ (4, OnValues Required) ∷ [])
+
+-- the form of a rule that a byte stands for in a file of a version: rules on values came with the fourth
+abbrev pub form_of_byte : Version → ℕ → Option RuleForm
+form_of_byte Fourth byte = any_form byte
+form_of_byte version byte = form_between byte
 
 -- the named predicate that a byte stands for
 abbrev pub predicate_of_byte : ℕ → Option Predicate
@@ -258,29 +273,39 @@ asked = do
 abbrev pub ask : Reading Ask
 ask = field asked (λ found. present found BadPattern)
 
--- a rule behind its name, between layers of the file
-abbrev pub rule : Content → List Rule → Reading Rule
-rule content earlier = do
-  title ← field name (fresh_rule_name earlier)
-  form ← field (number 1) (λ byte. present (form_of_byte byte) BadFile)
+-- what a rule says, behind its form: of layers of the file, or of a column of one of them
+abbrev pub said : Content → RuleForm → Reading Says
+said content (Between form) = do
   first ← field name (known_layer_name content)
   asked ← ask
   second ← field name (known_layer_name content)
-  done (record { name = title; form = form; first = first; ask = asked; second = second })
+  done (OfLayers (record { form = form; first = first; ask = asked; second = second }))
+said content (OnValues demand) = do
+  layer ← field name (known_layer_name content)
+  column ← field name (known_column_name content layer)
+  done (OfValues (record { demand = demand; layer = layer; column = column }))
+
+-- a rule behind its name
+abbrev pub rule : Version → Content → List Rule → Reading Rule
+rule version content earlier = do
+  title ← field name (fresh_rule_name earlier)
+  form ← field (number 1) (λ byte. present (form_of_byte version byte) BadFile)
+  says ← said content form
+  done (record { name = title; says = says })
 
 -- the rule, where nothing in the content breaks it
 abbrev pub unbroken : Content → Rule → Result Rule Defect
 unbroken content rule = allowed (not (is_some (break_of content rule))) RuleBroken rule
 
 -- a rule that holds in the content; where it does not, the fault is at its first byte
-abbrev pub held_rule : Content → List Rule → Reading Rule
-held_rule content earlier = field (rule content earlier) (unbroken content)
+abbrev pub held_rule : Version → Content → List Rule → Reading Rule
+held_rule version content earlier = field (rule version content earlier) (unbroken content)
 
 -- the rules
-abbrev pub rules : Content → Reading (List Rule)
-rules content = do
+abbrev pub rules : Version → Content → Reading (List Rule)
+rules version content = do
   count ← number 2
-  items (held_rule content) count []
+  items (held_rule version content) count []
 
 -- ---- versions
 
@@ -321,7 +346,7 @@ grid_of Fourth = Bits31
 abbrev pub rules_in : Version → Content → Reading (List Rule)
 rules_in First content = done []
 rules_in Second content = done []
-rules_in version content = rules content
+rules_in version content = rules version content
 
 -- a whole file
 abbrev pub file : Reading Ruled

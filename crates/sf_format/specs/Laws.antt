@@ -14,7 +14,7 @@ use Rattle.sf_features.specs.Names.{is_name}
 use Rattle.sf_layers.specs.Content.{Content}
 use Rattle.sf_layers.specs.WellFormed.{IsWellFormed}
 use Rattle.sf_ruled_store.specs.Ruling.{HasNineLetters}
-use Rattle.sf_ruled_store.specs.Ruling.{Rule}
+use Rattle.sf_ruled_store.specs.Ruling.{Rule, Says, OfLayers, OfValues}
 use Rattle.sf_ruled_store.specs.Ruling.{AllHold}
 use Rattle.sf_ruled_store.specs.Ruled.{Ruled}
 use Rattle.sf_ruled_store.specs.Undos.{IsSettled}
@@ -27,13 +27,18 @@ use Rattle.sf_format.specs.Canonical.{canonical, canonical_ruled, first_canonica
 
 -- ---- rules
 
+-- a rule between layers asks for nine letters where it asks for a pattern
+abbrev pub AsksForNine : Says → Type 0
+AsksForNine (OfLayers rule) = HasNineLetters rule.ask
+AsksForNine (OfValues rule) = Unit {0}
+
 -- a rule has a name, and asks for nine letters where it asks for a pattern
 pub record IsRule (rule : Rule) : Type 0 where
   pub named : IsTrue (is_name rule.name)
-  pub nine : HasNineLetters rule.ask
+  pub nine : AsksForNine rule.says
 
--- a content with rules is well formed: so is the content; the rules are between its layers, and hold; no two have one name, and
--- there are not too many
+-- a content with rules is well formed: so is the content; all that the rules name is there, and they hold; no two have one name,
+-- and there are not too many
 pub record IsRuledWell (ruled : Ruled) : Type 0 where
   pub content : IsWellFormed ruled.content
   pub settled : IsSettled ruled
@@ -98,9 +103,18 @@ FirstCanonicalBytesLoad = (content : Content) → IsWellFormed content → AreIn
 abbrev pub SecondCanonicalBytesLoad : Type 0
 SecondCanonicalBytesLoad = (content : Content) → IsWellFormed content → AreIn Bits24 content → content_of (second_canonical content) ≡ Ok content
 
--- and those that the third version has for such a content with rules
+-- a rule is one between layers
+abbrev pub IsSaidOfLayers : Says → Type 0
+IsSaidOfLayers (OfLayers rule) = Unit {0}
+IsSaidOfLayers (OfValues rule) = ⊥
+
+abbrev pub IsOfLayers : Rule → Type 0
+IsOfLayers rule = IsSaidOfLayers rule.says
+
+-- and those that the third version has for such a content with rules, all of them between layers
 abbrev pub ThirdCanonicalBytesLoad : Type 0
-ThirdCanonicalBytesLoad = (ruled : Ruled) → IsRuledWell ruled → AreIn Bits24 ruled.content → ruled_content_of (third_canonical ruled) ≡ Ok ruled
+ThirdCanonicalBytesLoad =
+    (ruled : Ruled) → IsRuledWell ruled → AllByRecursion IsOfLayers ruled.rules → AreIn Bits24 ruled.content → ruled_content_of (third_canonical ruled) ≡ Ok ruled
 
 -- only well-formed contents have files
 abbrev pub FilesAreWellFormed : Type 0

@@ -2,11 +2,11 @@
 -- What a file is of, in the words of the crates below, passed on to those that load and save it.
 pub use Rattle.sf_ruled_store.specs.Ruling.{Ask}
 pub use Rattle.sf_ruled_store.specs.Ruling.{Matching, Named}
-pub use Rattle.sf_ruled_store.specs.Ruling.{Rule}
+pub use Rattle.sf_ruled_store.specs.Ruling.{Rule, Says, OfLayers, OfValues}
 pub use Rattle.sf_ruled_store.specs.Ruling.{Break}
 pub use Rattle.sf_ruled_store.specs.Ruling.{break_of, broken_or}
 pub use Rattle.sf_ruled_store.specs.declared.refusal.Refusal.{Refusal}
 pub use Rattle.sf_ruled_store.specs.declared.refusal.Refusal.TheVariants as refusals
-pub use Rattle.sf_ruled_store.specs.Ruled.{Ruled, added, has_rule, place_of_rule, rules_max, unless_broken, with_rule}
+pub use Rattle.sf_ruled_store.specs.Ruled.{Ruled, added, has_column_in, has_layers_of, has_named, has_rule, has_said, place_of_rule, rules_max, unless_broken, with_rule}
 pub use Rattle.sf_ruled_store.specs.Outcomes.{IsRefusedAs}
 pub use Rattle.sf_ruled_store.specs.Laws.{IsKept}

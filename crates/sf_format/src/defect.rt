@@ -22,8 +22,8 @@ pub enum Defect {
     LayerExists,
     /// The text isn't 1 to 32 ASCII letters, digits or underscores, the first of them a letter.
     BadName,
-    /// A column number names no column of the layer or isn't above the one before, or there are more
-    /// values than columns.
+    /// A column number names no column of the layer or isn't above the one before, there are more values than columns, or
+    /// the layer that a rule names has no column of the name.
     NoColumn,
     /// An earlier column of the layer has the name.
     ColumnExists,
@@ -39,7 +39,7 @@ pub enum Defect {
     /// the columns.
     ColumnsExhausted,
     /// The first eight bytes aren't those of a file of a store, the byte of the grid isn't that of their version, or the byte is of no form of a
-    /// rule.
+    /// rule that files of the version have.
     BadFile,
     /// No layer of the file has the name.
     NoLayer,

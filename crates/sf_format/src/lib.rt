@@ -4,8 +4,13 @@
 
 mod defect;
 pub mod laws;
+mod rule_form;
 mod version;
 
 pub use defect::Defect;
-pub use sf_ruled_store::{Ask, Form, Refusal as StepRefusal, Rule, Ruled, Rules as KeptRules};
+pub use rule_form::RuleForm;
+pub use sf_ruled_store::{
+    Ask, Demand, Form, LayerRule, Refusal as StepRefusal, Rule, Ruled, Rules as KeptRules, Says,
+    ValueRule,
+};
 pub use version::Version;

@@ -5,8 +5,8 @@ pub enum Version {
     First,
     /// Coordinates of 24 bits, and no rules.
     Second,
-    /// Coordinates of 24 bits, and rules behind the layers.
+    /// Coordinates of 24 bits, and rules between layers behind these.
     Third,
-    /// Coordinates of 31 bits, and rules behind the layers: the version that is written.
+    /// Coordinates of 31 bits, and rules between layers and on values: the version that is written.
     Fourth,
 }

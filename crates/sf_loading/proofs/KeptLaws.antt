@@ -3,8 +3,8 @@ use Rattle.std.proofs.Common.{◌≡◌, ◌∙◌, ◌<◌, ℕ, Bool, true, fa
 use Rattle.std.specs.Prelude.{is_some, nat_lt, if◌then◌else◌}
 use Rattle.std.proofs.lemmas.Bool.{lt-ltb}
 use Rattle.sf_features.specs.Names.{is_name}
-use Rattle.sf_layers.specs.Content.{Content, has_layer}
-use Rattle.sf_format.specs.Stored.{Break, IsRefusedAs, Refusal, Rule, Ruled, added, break_of, broken_or, has_rule, rules_max, unless_broken, with_rule}
+use Rattle.sf_layers.specs.Content.{Content, LayerContent, layer_of}
+use Rattle.sf_format.specs.Stored.{Break, IsRefusedAs, OfLayers, OfValues, Refusal, Rule, Ruled, Says, added, break_of, broken_or, has_column_in, has_layers_of, has_named, has_rule, has_said, rules_max, unless_broken, with_rule}
 use Rattle.sf_format.specs.Stored.refusals as refusals
 use Rattle.sf_streams.specs.Streams.{Goes, Left}
 use Rattle.sf_streams.proofs.ReadingLaws.{Goes-nothing}
@@ -18,18 +18,27 @@ use Rattle.sf_loading.specs.Kept.{CanBeAdded, GivesRule, halt_of}
 use Rattle.sf_loading.specs.Streaming.{Judges, Takes}
 use Rattle.sf_loading.proofs.StreamLaws.{Finds-field, Takes-field}
 
+-- where all that a rule names is there, its layers are
+layers-there : (content : Content) (title : List ℕ) (says : Says) → has_said content says ≡ true → has_layers_of content (record { name = title; says = says }) ≡ true
+layers-there content title (OfLayers r) there = there
+layers-there content title (OfValues r) there = by (layer_of content r.layer) there
+  where
+    by : (o : Option LayerContent) → has_column_in r.column o ≡ true → is_some o ≡ true
+    by None h = absurd cc
+    by (Some layer) h = refl
+
 -- where it can be added, it is, unless it is broken
 adds : (old : Ruled) (r : Rule) → CanBeAdded old r → length old.rules < rules_max → added old r ≡ unless_broken (with_rule old r) (broken_or (length old.rules) (break_of old.content r) None)
 adds old r can few =
     let last = unless_broken (with_rule old r) (broken_or (length old.rules) (break_of old.content r) None) in
     let fifth : Result Ruled Refusal = if not (nat_lt (length old.rules) rules_max) then Err refusals.TooManyRules else last in
-    let fourth : Result Ruled Refusal = if not (has_layer old.content r.second) then Err refusals.NoLayer else fifth in
-    let third : Result Ruled Refusal = if not (has_layer old.content r.first) then Err refusals.NoLayer else fourth in
+    let fourth : Result Ruled Refusal = if not (has_named old.content r) then Err refusals.NoColumn else fifth in
+    let third : Result Ruled Refusal = if not (has_layers_of old.content r) then Err refusals.NoLayer else fourth in
     let second : Result Ruled Refusal = if has_rule r.name old.rules then Err refusals.RuleExists else third in
     ap (λ b. if not b then Err refusals.BadName else second) can.named
     ∙ ap (λ b. if b then Err refusals.RuleExists else third) can.free
-    ∙ ap (λ b. if not b then Err refusals.NoLayer else fourth) can.first
-    ∙ ap (λ b. if not b then Err refusals.NoLayer else fifth) can.second
+    ∙ ap (λ b. if not b then Err refusals.NoLayer else fourth) (layers-there old.content r.name r.says can.there)
+    ∙ ap (λ b. if not b then Err refusals.NoColumn else fifth) can.there
     ∙ ap (λ b. if not b then Err refusals.TooManyRules else last) (lt-ltb (length old.rules) rules_max few)
 
 -- it was added
@@ -63,21 +72,23 @@ refused-judged old r place refusal halt can few refused is = subst (λ h. Judges
     by (refusals.RuleBroken broken) h = (refl, is-broken old r (refusals.RuleBroken broken) can few h)
     by refusals.NoRule h = (refl, is-broken old r refusals.NoRule can few h)
     by refusals.RuleExists h = (refl, is-broken old r refusals.RuleExists can few h)
+    by refusals.NoColumn h = (refl, is-broken old r refusals.NoColumn can few h)
+    by refusals.ColumnRuled h = (refl, is-broken old r refusals.ColumnRuled can few h)
     by refusals.LayerRuled h = (refl, is-broken old r refusals.LayerRuled can few h)
     by refusals.BadName h = (refl, is-broken old r refusals.BadName can few h)
     by refusals.NoLayer h = (refl, is-broken old r refusals.NoLayer can few h)
     by refusals.TooManyRules h = (refl, is-broken old r refusals.TooManyRules can few h)
 
 -- a rule was read, and added or refused
-pub GivesRule-judged : (before after : Ruled) (r : Rule) (place : ℕ) (result : Result (Unit {0}) Halt) (unread left : Option (List ℕ)) (old new : Left) → place ≡ old.place
-    → Takes (rule before.content before.rules) r unread left old new → JudgesRule place before.content r result → OnOk result (after ≡ with_rule before r)
-    → GivesRule before after unread left old new result
-GivesRule-judged before after r place (Ok done) unread left old new here a judges is =
-    (r, Takes-field (rule before.content before.rules) (unbroken before.content) r r unread left old new judges a, is)
-GivesRule-judged before after r place (Err (halts.Found there defect)) unread left old new here a judges is =
-    Finds-field (rule before.content before.rules) (unbroken before.content) r there defect unread left old new (judges.0 ∙ here) judges.1 a
-GivesRule-judged before after r place (Err halts.Memory) unread left old new here a judges is = (a.got, a.consumed)
-GivesRule-judged before after r place (Err halts.Read) unread left old new here a judges is = (a.got, a.consumed)
+pub GivesRule-judged : (version : Version) (before after : Ruled) (r : Rule) (place : ℕ) (result : Result (Unit {0}) Halt) (unread left : Option (List ℕ)) (old new : Left) → place ≡ old.place
+    → Takes (rule version before.content before.rules) r unread left old new → JudgesRule place before.content r result → OnOk result (after ≡ with_rule before r)
+    → GivesRule version before after unread left old new result
+GivesRule-judged version before after r place (Ok done) unread left old new here a judges is =
+    (r, Takes-field (rule version before.content before.rules) (unbroken before.content) r r unread left old new judges a, is)
+GivesRule-judged version before after r place (Err (halts.Found there defect)) unread left old new here a judges is =
+    Finds-field (rule version before.content before.rules) (unbroken before.content) r there defect unread left old new (judges.0 ∙ here) judges.1 a
+GivesRule-judged version before after r place (Err halts.Memory) unread left old new here a judges is = (a.got, a.consumed)
+GivesRule-judged version before after r place (Err halts.Read) unread left old new here a judges is = (a.got, a.consumed)
 
 -- where a version has no rules, none is read
 pub no-rules-read : (version : Version) (content : Content) (kept : List Rule) (unread : Option (List ℕ)) (left : Left) → rules_in version content ≡ done {T = List Rule} [] → kept ≡ []

@@ -1,9 +1,10 @@
 //! The rules of a store, each of which has to hold in it.
-ghost use Rattle.std.specs.Prelude.{◌≡◌, ◌<◌, [], length, IfOk, OnOk};
-ghost use Rattle.sf_format.specs.Stored.{rules_max, with_rule};
+ghost use Rattle.std.specs.Prelude.{◌≡◌, ◌<◌, [], length, true, IfOk, OnOk};
+ghost use Rattle.sf_format.specs.Stored.{has_said, rules_max, with_rule};
+ghost use Rattle.sf_format.specs.declared.rule_form.RuleForm.TheVariants.{Between, OnValues};
 ghost use Rattle.sf_format.specs.declared.defect.Defect.TheVariants.{BadFile};
 ghost use Rattle.sf_format.specs.Readings.{field, items, number};
-ghost use Rattle.sf_format.specs.Format.{form_of_byte as form_of_byte_of, held_rule as read_held_rule, present as present_of, rule as read_rule, rules as read_rules, rules_in, unbroken};
+ghost use Rattle.sf_format.specs.Format.{any_form as any_form_of, form_between as form_between_of, form_of_byte as form_of_byte_of, held_rule as read_held_rule, present as present_of, rule as read_rule, rules as read_rules, rules_in, said as read_said, unbroken};
 ghost use Rattle.sf_loading.specs.Streaming.{Gives, Judges};
 ghost use Rattle.sf_loading.specs.Kept.{CanBeAdded, GivesRule, halt_of};
 
@@ -11,56 +12,139 @@ use super::asks::ask;
 use super::fields::present;
 use super::halt::Halt;
 use super::numbers::{number_u8, number_u16};
-use super::texts::{known_layer, rule_name};
-use sf_format::{Defect, Form, Rule, Ruled, StepRefusal, Version};
+use super::texts::{known_column, known_layer, rule_name};
+use sf_format::{
+    Defect, Demand, Form, LayerRule, Rule, RuleForm, Ruled, Says, StepRefusal, ValueRule, Version,
+};
 use sf_layers::Store;
 use sf_streams::Window;
 use std::alloc::Global;
 use std::io::Read;
 
-fn form_of_byte(byte: u8) -> Option<Form>
-    ensures { result ≡ form_of_byte_of byte }
+/// The form of a rule between layers that a byte stands for.
+fn form_between(byte: u8) -> Option<RuleForm>
+    ensures { result ≡ form_between_of byte }
 {
     match byte {
-        1 => Some(Form::Never),
-        2 => Some(Form::Each),
+        1 => Some(RuleForm::Between(Form::Never)),
+        2 => Some(RuleForm::Between(Form::Each)),
         _ => None,
     }
 }
 
+/// The form of any rule.
+fn any_form(byte: u8) -> Option<RuleForm>
+    ensures { result ≡ any_form_of byte }
+{
+    match byte {
+        1 => Some(RuleForm::Between(Form::Never)),
+        2 => Some(RuleForm::Between(Form::Each)),
+        3 => Some(RuleForm::OnValues(Demand::Unique)),
+        4 => Some(RuleForm::OnValues(Demand::Required)),
+        _ => None,
+    }
+}
+
+/// The form of a rule that a byte stands for in a file of a version.
+fn form_of_byte(version: Version, byte: u8) -> Option<RuleForm>
+    ensures { result ≡ form_of_byte_of version byte }
+{
+    match version {
+        Version::First => form_between(byte),
+        Version::Second => form_between(byte),
+        Version::Third => form_between(byte),
+        Version::Fourth => any_form(byte),
+    }
+}
+
 /// The form of a rule.
-fn form<R: Read>(window: &mut Window, reader: &mut R) -> Result<Form, Halt>
-    ensures { Gives (λ form. form) (field (number 1) (λ byte. present_of (form_of_byte_of byte) BadFile))
+fn form<R: Read>(window: &mut Window, reader: &mut R, version: Version) -> Result<RuleForm, Halt>
+    ensures { Gives (λ form. form) (field (number 1) (λ byte. present_of (form_of_byte_of version byte) BadFile))
         (R.remaining reader.old) (R.remaining reader.new) window.old window.new result }
 {
     let place = window.place();
     let byte = number_u8(window, reader)?;
-    present(form_of_byte(byte), place, Defect::BadFile)
+    present(form_of_byte(version, byte), place, Defect::BadFile)
 }
 
-/// A rule behind its name, which no rule of the store has, between layers of the store.
-fn rule<R: Read>(
+/// What a rule between layers of the store says, behind its form.
+fn said_between<R: Read>(
     alloc: Global,
     window: &mut Window,
     reader: &mut R,
-    ruled: &Ruled,
-) -> Result<Rule, Halt>
-    ensures gives { Gives (λ rule. rule) (read_rule ruled.now.content ruled.now.rules) (R.remaining reader.old)
+    form: Form,
+    store: &Store,
+) -> Result<Says, Halt>
+    ensures gives { Gives (λ says. says) (read_said store.now (Between form)) (R.remaining reader.old)
         (R.remaining reader.new) window.old window.new result }
-    ensures can { IfOk result (CanBeAdded ruled.now) }
+    ensures there { IfOk result (λ says. has_said store.now says ≡ true) }
 {
-    let name = rule_name(alloc, window, reader, ruled.rules())?;
-    let form = form(window, reader)?;
-    let first = known_layer(alloc, window, reader, ruled.store())?;
+    let first = known_layer(alloc, window, reader, store)?;
     let ask = ask(window, reader)?;
-    let second = known_layer(alloc, window, reader, ruled.store())?;
-    Ok(Rule {
-        name,
+    let second = known_layer(alloc, window, reader, store)?;
+    Ok(Says::OfLayers(LayerRule {
         form,
         first,
         ask,
         second,
-    })
+    }))
+}
+
+/// What a rule on the values in a column of a layer of the store says, behind its form.
+fn said_on_values<R: Read>(
+    alloc: Global,
+    window: &mut Window,
+    reader: &mut R,
+    demand: Demand,
+    store: &Store,
+) -> Result<Says, Halt>
+    ensures gives { Gives (λ says. says) (read_said store.now (OnValues demand)) (R.remaining reader.old)
+        (R.remaining reader.new) window.old window.new result }
+    ensures there { IfOk result (λ says. has_said store.now says ≡ true) }
+{
+    let layer = known_layer(alloc, window, reader, store)?;
+    let column = known_column(alloc, window, reader, store, layer.as_str())?;
+    Ok(Says::OfValues(ValueRule {
+        demand,
+        layer,
+        column,
+    }))
+}
+
+/// What a rule of a form says, of which all that it names is in the store.
+fn said<R: Read>(
+    alloc: Global,
+    window: &mut Window,
+    reader: &mut R,
+    form: RuleForm,
+    store: &Store,
+) -> Result<Says, Halt>
+    ensures gives { Gives (λ says. says) (read_said store.now form) (R.remaining reader.old) (R.remaining reader.new)
+        window.old window.new result }
+    ensures there { IfOk result (λ says. has_said store.now says ≡ true) }
+{
+    match form {
+        RuleForm::Between(form) => said_between(alloc, window, reader, form, store),
+        RuleForm::OnValues(demand) => said_on_values(alloc, window, reader, demand, store),
+    }
+}
+
+/// A rule behind its name, which no rule of the store has.
+fn rule<R: Read>(
+    alloc: Global,
+    window: &mut Window,
+    reader: &mut R,
+    version: Version,
+    ruled: &Ruled,
+) -> Result<Rule, Halt>
+    ensures gives { Gives (λ rule. rule) (read_rule version ruled.now.content ruled.now.rules) (R.remaining reader.old)
+        (R.remaining reader.new) window.old window.new result }
+    ensures can { IfOk result (CanBeAdded ruled.now) }
+{
+    let name = rule_name(alloc, window, reader, ruled.rules())?;
+    let form = form(window, reader, version)?;
+    let says = said(alloc, window, reader, form, ruled.store())?;
+    Ok(Rule { name, says })
 }
 
 /// Why reading ended where a rule is refused that can only be broken.
@@ -91,13 +175,14 @@ fn held_rule<R: Read>(
     alloc: Global,
     window: &mut Window,
     reader: &mut R,
+    version: Version,
     ruled: &mut Ruled,
 ) -> Result<(), Halt>
     requires { length ruled.old.rules < rules_max }
-    ensures { GivesRule ruled.old ruled.new (R.remaining reader.old) (R.remaining reader.new) window.old window.new result }
+    ensures { GivesRule version ruled.old ruled.new (R.remaining reader.old) (R.remaining reader.new) window.old window.new result }
 {
     let place = window.place();
-    let rule = rule(alloc, window, reader, ruled)?;
+    let rule = rule(alloc, window, reader, version, ruled)?;
     add(alloc, place, ruled, rule)
 }
 
@@ -106,16 +191,17 @@ fn counted_rules<R: Read>(
     alloc: Global,
     window: &mut Window,
     reader: &mut R,
+    version: Version,
     store: Store,
     count: u16,
 ) -> Result<Ruled, Halt>
-    ensures gives { Gives (λ ruled. ruled.rules) (items (read_held_rule store) count []) (R.remaining reader.old)
+    ensures gives { Gives (λ ruled. ruled.rules) (items (read_held_rule version store) count []) (R.remaining reader.old)
         (R.remaining reader.new) window.old window.new result }
     ensures content { IfOk result (λ ruled. ruled.content ≡ store) }
 {
     let mut ruled = Ruled::from_store(alloc, store);
     for _ in 0..count {
-        held_rule(alloc, window, reader, &mut ruled)?;
+        held_rule(alloc, window, reader, version, &mut ruled)?;
     }
     Ok(ruled)
 }
@@ -125,14 +211,15 @@ fn rules<R: Read>(
     alloc: Global,
     window: &mut Window,
     reader: &mut R,
+    version: Version,
     store: Store,
 ) -> Result<Ruled, Halt>
-    ensures gives { Gives (λ ruled. ruled.rules) (read_rules store) (R.remaining reader.old) (R.remaining reader.new)
+    ensures gives { Gives (λ ruled. ruled.rules) (read_rules version store) (R.remaining reader.old) (R.remaining reader.new)
         window.old window.new result }
     ensures content { IfOk result (λ ruled. ruled.content ≡ store) }
 {
     let count = number_u16(window, reader)?;
-    counted_rules(alloc, window, reader, store, count)
+    counted_rules(alloc, window, reader, version, store, count)
 }
 
 /// A store with the rules of a file of a version, of which the first two have none.
@@ -150,7 +237,7 @@ pub(crate) fn ruled<R: Read>(
     match version {
         Version::First => Ok(Ruled::from_store(alloc, store)),
         Version::Second => Ok(Ruled::from_store(alloc, store)),
-        Version::Third => rules(alloc, window, reader, store),
-        Version::Fourth => rules(alloc, window, reader, store),
+        Version::Third => rules(alloc, window, reader, Version::Third, store),
+        Version::Fourth => rules(alloc, window, reader, Version::Fourth, store),
     }
 }

@@ -1,11 +1,12 @@
 //! Names and texts of a file.
-ghost use Rattle.std.specs.Prelude.{◌≡◌, ◌≤◌, ◌&&◌, nat_le, length, take, List, ℕ, IsTrue, IfOk};
+ghost use Rattle.std.specs.Prelude.{◌≡◌, ◌≤◌, ◌&&◌, nat_le, length, take, List, ℕ, IsTrue, IfOk, option_copied};
 ghost use Rattle.sf_features.specs.Columns.{named as named_of};
 ghost use Rattle.sf_features.specs.Names.{is_name as is_name_of};
 ghost use Rattle.sf_streams.specs.Streams.{ahead_max};
 ghost use Rattle.sf_format.specs.declared.defect.Defect.TheVariants.{BadName};
 ghost use Rattle.sf_format.specs.Readings.{field, number};
-ghost use Rattle.sf_format.specs.Format.{allowed as allowed_of, fresh_column_name, fresh_layer_name, fresh_rule_name, known_layer_name, name as name_of};
+ghost use Rattle.sf_format.specs.Format.{allowed as allowed_of, fresh_column_name, fresh_layer_name, fresh_rule_name, known_column_name, known_layer_name, name as name_of};
+ghost use Rattle.sf_format.specs.Stored.{has_column_in};
 ghost use Rattle.sf_loading.specs.Streaming.{Gives, GivesText, IsTextOf, Judges};
 
 use super::fields::allowed;
@@ -148,4 +149,31 @@ pub(crate) fn known_layer<R: Read>(
     let name = name(alloc, window, reader)?;
     let known = store.place(name.as_str()).is_some();
     allowed(known, place, Defect::NoLayer, name)
+}
+
+/// Whether a layer is there and has the column of a name.
+fn has_column(layer: Option<&Layer>, name: &str) -> bool
+    ensures { result ≡ has_column_in name.now (option_copied layer.entry) }
+{
+    match layer {
+        Some(layer) => layer.column_place(name).is_some(),
+        None => false,
+    }
+}
+
+/// A name that a column of a layer of the store has.
+pub(crate) fn known_column<R: Read>(
+    alloc: Global,
+    window: &mut Window,
+    reader: &mut R,
+    store: &Store,
+    layer: &str,
+) -> Result<Text, Halt>
+    ensures { Gives (λ t. t) (field name_of (known_column_name store.now layer.now)) (R.remaining reader.old)
+        (R.remaining reader.new) window.old window.new result }
+{
+    let place = window.place();
+    let name = name(alloc, window, reader)?;
+    let known = has_column(store.layer(layer), name.as_str());
+    allowed(known, place, Defect::NoColumn, name)
 }

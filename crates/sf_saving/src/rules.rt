@@ -2,23 +2,34 @@
 ghost use Rattle.std.specs.Prelude.{◌≡◌, ◌++◌, flat_map, OnErr, OnOk};
 ghost use Rattle.byteorder.specs.Endian.{big_bytes};
 ghost use Rattle.sf_known.specs.Patterns.{pattern_text};
-ghost use Rattle.sf_format.specs.Canonical.{ask_bytes, form_byte as form_byte_of, predicate_byte as predicate_byte_of, rule_bytes, rules_bytes};
+ghost use Rattle.sf_format.specs.Canonical.{ask_bytes, demand_byte as demand_byte_of, form_byte as form_byte_of, predicate_byte as predicate_byte_of, rule_bytes, rules_bytes, says_bytes};
+ghost use Rattle.sf_format.specs.Stored.{OfLayers, OfValues};
 ghost use Rattle.sf_saving.specs.Parts.{letter_bytes};
 ghost use Rattle.sf_streams.specs.Streams.{Puts, WritesFront};
 
 use super::fields::put_name;
-use sf_format::{Ask, Form, Rule};
+use sf_format::{Ask, Demand, Form, LayerRule, Rule, Says, ValueRule};
 use sf_known::{Letter, Pattern, Predicate};
 use sf_streams::{Output, WriteFault};
 use std::io::Write;
 
-/// The byte of a rule's form.
+/// The byte of the form of a rule between layers.
 fn form_byte(form: Form) -> u8
     ensures { result ≡ form_byte_of form }
 {
     match form {
         Form::Never => 1,
         Form::Each => 2,
+    }
+}
+
+/// The byte of what a rule demands of values.
+fn demand_byte(demand: Demand) -> u8
+    ensures { result ≡ demand_byte_of demand }
+{
+    match demand {
+        Demand::Unique => 3,
+        Demand::Required => 4,
     }
 }
 
@@ -97,7 +108,53 @@ fn put_ask<W: Write>(output: &mut Output, writer: &mut W, ask: &Ask) -> Result<(
     }
 }
 
-/// Puts a rule behind its name: its form, its layers and what is asked of them.
+/// Puts a rule between layers: its form, its layers and what is asked of them.
+fn put_between<W: Write>(
+    output: &mut Output,
+    writer: &mut W,
+    rule: &LayerRule,
+) -> Result<(), WriteFault>
+    ensures ok { OnOk result (Puts (W.contents writer.old) (W.contents writer.new) output.old output.new
+        (says_bytes (OfLayers rule.now))) }
+    ensures broken { OnErr result (WritesFront (W.contents writer.old) (W.contents writer.new)
+        (output.old ++ says_bytes (OfLayers rule.now))) }
+{
+    output.put_u8(writer, form_byte(rule.form))?;
+    put_name(output, writer, rule.first.as_str())?;
+    put_ask(output, writer, &rule.ask)?;
+    put_name(output, writer, rule.second.as_str())
+}
+
+/// Puts a rule on values: what it demands, its layer and its column.
+fn put_on_values<W: Write>(
+    output: &mut Output,
+    writer: &mut W,
+    rule: &ValueRule,
+) -> Result<(), WriteFault>
+    ensures ok { OnOk result (Puts (W.contents writer.old) (W.contents writer.new) output.old output.new
+        (says_bytes (OfValues rule.now))) }
+    ensures broken { OnErr result (WritesFront (W.contents writer.old) (W.contents writer.new)
+        (output.old ++ says_bytes (OfValues rule.now))) }
+{
+    output.put_u8(writer, demand_byte(rule.demand))?;
+    put_name(output, writer, rule.layer.as_str())?;
+    put_name(output, writer, rule.column.as_str())
+}
+
+/// Puts what a rule says, behind the byte of its form.
+fn put_says<W: Write>(output: &mut Output, writer: &mut W, says: &Says) -> Result<(), WriteFault>
+    ensures ok { OnOk result (Puts (W.contents writer.old) (W.contents writer.new) output.old output.new
+        (says_bytes says.now)) }
+    ensures broken { OnErr result (WritesFront (W.contents writer.old) (W.contents writer.new)
+        (output.old ++ says_bytes says.now)) }
+{
+    match says {
+        Says::OfLayers(rule) => put_between(output, writer, rule),
+        Says::OfValues(rule) => put_on_values(output, writer, rule),
+    }
+}
+
+/// Puts a rule behind its name.
 fn put_rule<W: Write>(output: &mut Output, writer: &mut W, rule: &Rule) -> Result<(), WriteFault>
     ensures ok { OnOk result (Puts (W.contents writer.old) (W.contents writer.new) output.old output.new
         (rule_bytes rule.now)) }
@@ -105,10 +162,7 @@ fn put_rule<W: Write>(output: &mut Output, writer: &mut W, rule: &Rule) -> Resul
         (output.old ++ rule_bytes rule.now)) }
 {
     put_name(output, writer, rule.name.as_str())?;
-    output.put_u8(writer, form_byte(rule.form))?;
-    put_name(output, writer, rule.first.as_str())?;
-    put_ask(output, writer, &rule.ask)?;
-    put_name(output, writer, rule.second.as_str())
+    put_says(output, writer, &rule.says)
 }
 
 /// Puts rules, in order.

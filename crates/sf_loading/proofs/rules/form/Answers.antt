@@ -6,5 +6,5 @@ use Rattle.sf_loading.proofs.StreamLaws.{Gives-ruled}
 use Rattle.sf_loading.proofs.rules.form.Goals as goal
 
 pub returns : goal.returns
-returns g c = Gives-ruled (λ k. k) (number 1) (λ (byte : ℕ). present (form_of_byte byte) BadFile) c.in_ok-byte.byte (present c.form_of_byte.result BadFile) c.place-place.result
+returns g c = Gives-ruled (λ k. k) (number 1) (λ (byte : ℕ). present (form_of_byte c.args.version byte) BadFile) c.in_ok-byte.byte (present c.form_of_byte.result BadFile) c.place-place.result
     c.present.result _ _ _ _ c.place-place.ensures c.in_ok-byte.ensures (ap (λ k. present k BadFile) (sym c.form_of_byte.ensures)) c.present.ensures

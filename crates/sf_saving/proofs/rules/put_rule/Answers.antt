@@ -1,79 +1,27 @@
-use Rattle.std.proofs.Common.{◌++◌, ap, refl}
-use Rattle.byteorder.specs.Endian.{big_bytes}
-use Rattle.sf_format.specs.Canonical.{ask_bytes, behind_length, form_byte, rule_bytes}
+use Rattle.std.proofs.Common.{ap, refl}
+use Rattle.sf_format.specs.Canonical.{behind_length, rule_bytes, says_bytes}
 use Rattle.sf_streams.proofs.Putting.{Putting-start, Putting-more, breaks, ends-put, ends-broken}
 use Rattle.sf_saving.proofs.rules.put_rule.Goals as goal
 
 pub returns-in_err-put_name-clause-broken : goal.returns-in_err-put_name-clause-broken
 returns-in_err-put_name-clause-broken g c =
     let rule = c.args.rule.now in
-    let t4 = behind_length 1 rule.second in
-    let t3 = ask_bytes rule.ask ++ t4 in
-    let t2 = behind_length 1 rule.first ++ t3 in
-    let t1 = big_bytes 1 (form_byte rule.form) ++ t2 in
+    let later = says_bytes rule.says in
     let start = Putting-start (g.W.Write.contents c.args.writer.now) c.args.output.now (rule_bytes rule) in
-    breaks c.from_residual.result (behind_length 1 rule.name) t1 (ap (behind_length 1) c.as_str.ensures) start c.in_err-put_name.ensures.broken
-
-pub returns-in_err-put_u8-clause-broken : goal.returns-in_err-put_u8-clause-broken
-returns-in_err-put_u8-clause-broken g c =
-    let rule = c.args.rule.now in
-    let t4 = behind_length 1 rule.second in
-    let t3 = ask_bytes rule.ask ++ t4 in
-    let t2 = behind_length 1 rule.first ++ t3 in
-    let t1 = big_bytes 1 (form_byte rule.form) ++ t2 in
-    let start = Putting-start (g.W.Write.contents c.args.writer.now) c.args.output.now (rule_bytes rule) in
-    let one = Putting-more (behind_length 1 rule.name) t1 (ap (behind_length 1) c.as_str.ensures) start c.in_ok-put_name.ensures.ok in
-    breaks c.from_residual-in_err-put_u8.result (big_bytes 1 (form_byte rule.form)) t2 (ap (big_bytes 1) c.form_byte.ensures) one c.in_err-put_u8.ensures.broken
-
-pub returns-in_err-put_name-2-clause-broken : goal.returns-in_err-put_name-2-clause-broken
-returns-in_err-put_name-2-clause-broken g c =
-    let rule = c.args.rule.now in
-    let t4 = behind_length 1 rule.second in
-    let t3 = ask_bytes rule.ask ++ t4 in
-    let t2 = behind_length 1 rule.first ++ t3 in
-    let t1 = big_bytes 1 (form_byte rule.form) ++ t2 in
-    let start = Putting-start (g.W.Write.contents c.args.writer.now) c.args.output.now (rule_bytes rule) in
-    let one = Putting-more (behind_length 1 rule.name) t1 (ap (behind_length 1) c.as_str.ensures) start c.in_ok-put_name.ensures.ok in
-    let two = Putting-more (big_bytes 1 (form_byte rule.form)) t2 (ap (big_bytes 1) c.form_byte.ensures) one c.in_ok-put_u8.ensures.ok in
-    breaks c.from_residual-in_err-put_name-2.result (behind_length 1 rule.first) t3 (ap (behind_length 1) c.as_str-2.ensures) two c.in_err-put_name-2.ensures.broken
-
-pub returns-in_err-put_ask-clause-broken : goal.returns-in_err-put_ask-clause-broken
-returns-in_err-put_ask-clause-broken g c =
-    let rule = c.args.rule.now in
-    let t4 = behind_length 1 rule.second in
-    let t3 = ask_bytes rule.ask ++ t4 in
-    let t2 = behind_length 1 rule.first ++ t3 in
-    let t1 = big_bytes 1 (form_byte rule.form) ++ t2 in
-    let start = Putting-start (g.W.Write.contents c.args.writer.now) c.args.output.now (rule_bytes rule) in
-    let one = Putting-more (behind_length 1 rule.name) t1 (ap (behind_length 1) c.as_str.ensures) start c.in_ok-put_name.ensures.ok in
-    let two = Putting-more (big_bytes 1 (form_byte rule.form)) t2 (ap (big_bytes 1) c.form_byte.ensures) one c.in_ok-put_u8.ensures.ok in
-    let three = Putting-more (behind_length 1 rule.first) t3 (ap (behind_length 1) c.as_str-2.ensures) two c.in_ok-put_name-2.ensures.ok in
-    breaks c.from_residual-in_err-put_ask.result (ask_bytes rule.ask) t4 refl three c.in_err-put_ask.ensures.broken
+    breaks c.from_residual.result (behind_length 1 rule.name) later (ap (behind_length 1) c.as_str.ensures) start c.in_err-put_name.ensures.broken
 
 pub returns-clause-ok : goal.returns-clause-ok
 returns-clause-ok g c =
     let rule = c.args.rule.now in
-    let t4 = behind_length 1 rule.second in
-    let t3 = ask_bytes rule.ask ++ t4 in
-    let t2 = behind_length 1 rule.first ++ t3 in
-    let t1 = big_bytes 1 (form_byte rule.form) ++ t2 in
+    let later = says_bytes rule.says in
     let start = Putting-start (g.W.Write.contents c.args.writer.now) c.args.output.now (rule_bytes rule) in
-    let one = Putting-more (behind_length 1 rule.name) t1 (ap (behind_length 1) c.as_str.ensures) start c.in_ok-put_name.ensures.ok in
-    let two = Putting-more (big_bytes 1 (form_byte rule.form)) t2 (ap (big_bytes 1) c.form_byte.ensures) one c.in_ok-put_u8.ensures.ok in
-    let three = Putting-more (behind_length 1 rule.first) t3 (ap (behind_length 1) c.as_str-2.ensures) two c.in_ok-put_name-2.ensures.ok in
-    let four = Putting-more (ask_bytes rule.ask) t4 refl three c.in_ok-put_ask.ensures.ok in
-    ends-put c.put_name-3.result _ _ t4 (ap (behind_length 1) c.as_str-3.ensures) four c.put_name-3.ensures.ok
+    let one = Putting-more (behind_length 1 rule.name) later (ap (behind_length 1) c.as_str.ensures) start c.in_ok-put_name.ensures.ok in
+    ends-put c.put_says.result _ _ later refl one c.put_says.ensures.ok
 
 pub returns-clause-broken : goal.returns-clause-broken
 returns-clause-broken g c =
     let rule = c.args.rule.now in
-    let t4 = behind_length 1 rule.second in
-    let t3 = ask_bytes rule.ask ++ t4 in
-    let t2 = behind_length 1 rule.first ++ t3 in
-    let t1 = big_bytes 1 (form_byte rule.form) ++ t2 in
+    let later = says_bytes rule.says in
     let start = Putting-start (g.W.Write.contents c.args.writer.now) c.args.output.now (rule_bytes rule) in
-    let one = Putting-more (behind_length 1 rule.name) t1 (ap (behind_length 1) c.as_str.ensures) start c.in_ok-put_name.ensures.ok in
-    let two = Putting-more (big_bytes 1 (form_byte rule.form)) t2 (ap (big_bytes 1) c.form_byte.ensures) one c.in_ok-put_u8.ensures.ok in
-    let three = Putting-more (behind_length 1 rule.first) t3 (ap (behind_length 1) c.as_str-2.ensures) two c.in_ok-put_name-2.ensures.ok in
-    let four = Putting-more (ask_bytes rule.ask) t4 refl three c.in_ok-put_ask.ensures.ok in
-    ends-broken c.put_name-3.result _ t4 (ap (behind_length 1) c.as_str-3.ensures) four c.put_name-3.ensures.broken
+    let one = Putting-more (behind_length 1 rule.name) later (ap (behind_length 1) c.as_str.ensures) start c.in_ok-put_name.ensures.ok in
+    ends-broken c.put_says.result _ later refl one c.put_says.ensures.broken
