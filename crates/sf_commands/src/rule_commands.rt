@@ -58,12 +58,7 @@ fn value_rule(
 }
 
 /// A rule between layers, whose form a word spells.
-fn rule_of_form(
-    alloc: Global,
-    name: &str,
-    word: &str,
-    words: Words<'_>,
-) -> Result<Command, Refusal>
+fn rule_of_form(alloc: Global, name: &str, word: &str, words: Words<'_>) -> Result<Command, Refusal>
     ensures { OrMemory (given (form_named word.now) (λ form. layer_rule_of name.now form (words_of words.entry))) result }
 {
     let Some(form) = form_of(word) else {
