@@ -30,7 +30,7 @@ from qgis.core import (
 )
 from qgis.gui import QgsAttributeEditorContext, QgsAttributeForm, QgsGui
 from qgis.PyQt.QtCore import NULL, QDate, QDateTime, Qt, QTime, QVariant
-from qgis.PyQt.QtWidgets import QApplication, QLineEdit, QPushButton, QTextBrowser
+from qgis.PyQt.QtWidgets import QApplication, QLineEdit, QMessageBox, QPushButton, QTextBrowser
 from qgis_support import CROSSED, SQUARE, Plugin, QgisCase, Session, at_work
 
 from sfstore_qgis.fields import Places
@@ -1546,6 +1546,16 @@ class Others(QgisCase):
         self.plugin.move("undo")
         self.settle()
         self.assertNotIn("owner='Ann''s'", self.stored()[7])
+
+    def test_a_save_is_asked_about_as_it_ends_the_history_of_all(self):
+        ben = self.ben()
+        self.bens(ben, "set parcels 7 owner 'Ben'")
+        [action] = [each for each in self.plugin.bar.actions() if each.text() == "Save the store"]
+        for answer, is_saved in ((QMessageBox.No, False), (QMessageBox.Yes, True)):
+            with mock.patch.object(QMessageBox, "question", return_value=answer) as asked:
+                action.trigger()
+            self.assertIn("Save town.sfs for all? The history begins anew", asked.call_args[0][2])
+            self.assertEqual(ben.call("map")["undo"] is None, is_saved)
 
     def test_the_stores_undo_waits_for_what_was_not_sent(self):
         self.layer().startEditing()

@@ -3,6 +3,7 @@
 from __future__ import annotations
 
 import contextlib
+import os
 from collections.abc import Callable, Iterable, Iterator
 from functools import partial
 from typing import Any
@@ -10,7 +11,7 @@ from typing import Any
 from qgis.core import Qgis, QgsApplication, QgsMapLayer, QgsProject, QgsSettings, QgsVectorLayer
 from qgis.PyQt import sip
 from qgis.PyQt.QtCore import Qt, QTimer
-from qgis.PyQt.QtWidgets import QAction, QApplication, QFileDialog, QInputDialog, QLineEdit
+from qgis.PyQt.QtWidgets import QAction, QApplication, QFileDialog, QInputDialog, QLineEdit, QMessageBox
 
 from sfstore.language import KINDS
 from sfstore.web.client import CallFailed, ServerGone
@@ -57,7 +58,7 @@ class Plugin:
         self._add("Open a store ..", self.choose)
         self.undo = self._add("Undo in the store", partial(self.move, "undo"))
         self.redo = self._add("Redo in the store", partial(self.move, "redo"))
-        self._add("Save the store", self.save)
+        self._add("Save the store", self.choose_save)
         self._add("Add a layer ..", self.choose_layer)
         self._add("Drop the layer ..", self.drop_chosen)
         self._add("Link to the page ..", self.choose_link)
@@ -465,6 +466,13 @@ class Plugin:
                 self.teller.tell(words, Qgis.Warning)
                 return False
         return True
+
+    def choose_save(self) -> None:
+        """Asks, and saves the store: QGIS has actions of that word that end no history."""
+        name = os.path.basename(self._session().path)
+        words = f"Save {name} for all? The history begins anew: nobody can undo what was done before."
+        if QMessageBox.question(self._iface.mainWindow(), "Save the store", words) == QMessageBox.Yes:
+            self.save()
 
     def save(self) -> None:
         """Saves the store: the history begins anew, for all."""

@@ -21,7 +21,7 @@ from sfstore.sidecar import LEFT_MAX, ColumnOrigin, LayerOrigin
 from sfstore.store import Kind, Refused, Store
 from sfstore.storefile import INT, FileColumn, FileFeature, FileLayer
 
-__all__ = ["LayerImport", "Taking"]
+__all__ = ["LayerImport", "Taking", "with_word"]
 
 _LAST_ID = IDENTIFIER_MAX - 1
 # How many features are asked of the program at a time, and how many bytes their geometries have then at most, but for
@@ -32,6 +32,8 @@ _NAME_SHOWN = 40
 
 _SHAPEFILE = "ESRI Shapefile"
 _NO_PLACE = "Z or M"
+# What helps, of what is not taken.
+_WORDS = {_NO_PLACE: " (--drop-zm drops them)", "a geometry collection": " (--part-collections parts it)"}
 
 
 class Taking(NamedTuple):
@@ -211,8 +213,7 @@ class LayerImport:
                 return self._fitted(found.mapped(lambda line: self._grid.steps(line, self._rounding)))
             reason, detail = "too many points", f"{count:,} points, at most {POINTS_MAX:,}"
         except NotTaken as why:
-            reason = f"{why} (--drop-zm drops them)" if str(why) == _NO_PLACE else str(why)
-            reason += " (--part-collections parts it)" if reason == "a geometry collection" else ""
+            reason = with_word(why)
         except OffGrid as place:
             reason, detail = "off the grid", str(place)
         except Outside as place:
@@ -383,6 +384,11 @@ class LayerImport:
 
     def _note(self, text: str) -> None:
         self._report.note(self._source_name, text)
+
+
+def with_word(why: NotTaken) -> str:
+    """Why a geometry is not taken, with the word of the command that helps."""
+    return f"{why}{_WORDS.get(str(why), '')}"
 
 
 def _sources_of(numbers: list[int], sources: list[int]) -> Callable[[int], int]:

@@ -12,6 +12,7 @@ from typing import Any
 from sfstore.exchange import ogr
 from sfstore.exchange.grid import LEAST, MOST, NOISE_ULPS, Grid, OffGrid, Outside
 from sfstore.exchange.layers import Layer
+from sfstore.exchange.reading import with_word
 from sfstore.geometry import NotTaken, read_wkb
 
 __all__ = ["suggestion"]
@@ -91,7 +92,7 @@ def _look_at(geometry: Any, survey: _Survey) -> None:
         try:
             read_wkb(member.ExportToIsoWkb()).mapped(survey.add)
         except NotTaken as reason:
-            survey.left_out[str(reason)] += 1
+            survey.left_out[with_word(reason)] += 1
 
 
 def _decimals(place: float) -> int:

@@ -114,7 +114,7 @@ class Large(ExchangeCase):
         self.points({1: ("POINT Z (500000 5600000 7)", {}), 2: ("POINT M (500000.5 5600000 7)", {})})
         _, out, _ = bring_in(self.source, self.store, *GRID)
         self.assertIn("2 Z or M (--drop-zm drops them): 1, 2\n", out)
-        self.assertIn("no coordinates were found", bring_in("--suggest", self.source)[1])
+        self.assertEqual(bring_in("--suggest", self.source)[1], "2 features: Z or M (--drop-zm drops them)\nno coordinates were found\n")
         self.assertRegex(bring_in("--suggest", self.source, "--drop-zm")[1], "^--grid 500000 5600000 0.1\n")
 
 
@@ -221,7 +221,7 @@ class Collections(ExchangeCase):
 
     def test_a_proposal_parts_them_too(self):
         self.points({1: ("GEOMETRYCOLLECTION (POINT (1.5 1), GEOMETRYCOLLECTION (POINT (2 2)))", {})})
-        self.assertIn("1 features: a geometry collection\n", bring_in("--suggest", self.source)[1])
+        self.assertIn("1 features: a geometry collection (--part-collections parts it)\n", bring_in("--suggest", self.source)[1])
         out = bring_in("--suggest", self.source, "--part-collections")[1]
         self.assertIn("--grid 0 0 0.1\n", out)
         self.assertIn("4 of 4 different coordinates are on it\n", out)
