@@ -30,7 +30,7 @@ HEADLINE: list[tuple[str, list[str]]] = [
     ("sf_console/src/laws.rt", []),
     ("sf_history/src/laws.rt", []),
     ("sf_ruled_store/src/laws.rt", []),
-    ("sf_rules/src/laws.rt", ["breaks_are_over_the_plane", "rules_are_over_the_plane"]),
+    ("sf_rules/src/laws.rt", ["breaks_are_over_the_plane", "rules_are_over_the_plane", "value_breaks_are_these"]),
     ("sf_commands/src/laws.rt", []),
     ("sf_command_laws/src/laws.rt", []),
     ("sf_steps/src/laws.rt", []),
