@@ -237,7 +237,45 @@ RULES = [
     "layer drop w",
 ]
 
-WHOLE = [*SESSION, *(f"layer drop {name}" for name in "acd"), *TAKEN_BACK, *LAYERS, *VERTICES, *VALUES, *VALUES_BACK, *GROUPS, *RULES, *EDITORS]
+# Rules on values, with the index that they make, which edits keep or lose; undone and done again.
+VALUE_RULES = [
+    "layer add p point",
+    "column add p n text",
+    "column add p k int",
+    "add p POINT (1 1)",
+    "add p POINT (2 2)",
+    "set p 1 n 'a long text that takes memory of its own'",
+    "rule add numbers unique p n",
+    "rule add numbers unique p k",
+    "rule add kept unique p m",
+    "set p 2 n 'a long text that takes memory of its own'",
+    "set p 2 n 'another long text that takes memory of its own'",
+    "find p n 'another long text that takes memory of its own'",
+    "rule add numbered required p n",
+    "add p POINT (3 3)",
+    together("add p POINT (3 3)", "set p last n 'c'"),
+    together("set p 1 n 'c'", "set p 3 n 'd'"),
+    "unset p 3 n",
+    "set p 3 k 7",
+    "find p k 7",
+    "column drop p n",
+    "layer rename p q",
+    "rules",
+    "undo",
+    "undo",
+    "undo",
+    "set p 3 n 'a long text that takes memory of its own'",
+    "delete p 1",
+    "set p 3 n 'a long text that takes memory of its own'",
+    "show p",
+    "rule drop numbers",
+    "rule drop numbered",
+    "undo",
+    "redo",
+    "layer drop p",
+]
+
+WHOLE = [*SESSION, *(f"layer drop {name}" for name in "acd"), *TAKEN_BACK, *LAYERS, *VERTICES, *VALUES, *VALUES_BACK, *GROUPS, *RULES, *VALUE_RULES, *EDITORS]
 
 # A look at a layer of points: what its index finds, and the rest.
 LOOKS = ["query w intersects POLYGON ((0 0, 3 0, 3 3, 0 3, 0 0))", "query w disjoint POINT (2 2)"]
