@@ -83,6 +83,16 @@ class Borders(TestCase):
         parted = set(split_at(whole, [a for a, _ in whole]))
         self.assertEqual([polygon.holes for polygon in polygons_of((a, b) for a, b in parted if (b, a) not in parted)], [[]])
 
+    def test_a_fence_beside_gets_the_corner(self) -> None:
+        """The line ends on the slanted border above the two, along which a fence of another layer stands."""
+        ids = [self.store.add("p", text) for text in ("POLYGON ((0 0, 10 0, 10 10, 0 13, 0 0))", RIGHT)]
+        self.store.add_layer("fences")
+        self.store.add("fences", "LINESTRING (-5 20, 0 13, 10 10, 20 10)")
+        self.assertEqual(border(self.store, "p", *ids, "LINESTRING (10 0, 8 12)", beside=["fences"]), [("p", 1), ("p", 2), ("fences", 1)])
+        self.assertEqual(self.store.show("fences")[0].wkt, "LINESTRING (-5 20, 0 13, 8 11, 10 10, 20 10)")
+        self.store.undo()
+        self.assertEqual(self.store.show("fences")[0].wkt, "LINESTRING (-5 20, 0 13, 10 10, 20 10)")
+
     def test_an_island(self) -> None:
         lake = "POLYGON ((0 0, 20 0, 20 20, 0 20, 0 0), (5 5, 5 9, 9 9, 9 5, 5 5))"
         found = self.doubled([lake, "POLYGON ((5 5, 9 5, 9 9, 5 9, 5 5))"], "LINESTRING (4 4, 12 4, 12 12, 4 12, 4 4)")
