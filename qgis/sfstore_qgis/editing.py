@@ -186,6 +186,8 @@ class Editing:
     def corners(self) -> list[list[Any]]:
         """The new corners of what was not sent: they go into each border that passes there."""
         mirror, edits = self.provider.mirror, self._edits()
+        if mirror.kind.endswith("point"):
+            return []
         fids = [*edits.geometries, *edits.deleted]
         before = [mirror.memory_feature(mirror.numbers[fid]).geometry() for fid in fids if fid in mirror.numbers]
         drawn = [*edits.geometries.values(), *(feature.geometry() for feature in edits.added)]

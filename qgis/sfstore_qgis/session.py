@@ -26,9 +26,10 @@ __all__ = ["LayerRefused", "Refusal", "Session"]
 CALL_SECONDS = 5.0
 # A line of a batch takes some 0.1 milliseconds. A step may be a large batch, and a save writes the whole store.
 _LINE_SECONDS = 0.005
+_CORNER_SECONDS = 0.02
 _LONG_SECONDS = 30.0
 # So many new corners are put into the borders of others.
-CORNERS_MAX = 2_000
+CORNERS_MAX = 500
 _AGAIN_SECONDS = 0.2
 _STARTING_SECONDS = 30.0
 # How long after a loss the server is tried again at first, and at most: each time it takes twice as long.
@@ -194,7 +195,7 @@ class Session(QObject):
         ``corners`` are new ones, which go into each border of others that passes there. Where there are very many, a map was
         brought in, and none is.
         """
-        seconds = CALL_SECONDS + len(lines) * _LINE_SECONDS
+        seconds = CALL_SECONDS + len(lines) * _LINE_SECONDS + len(corners) * _CORNER_SECONDS
         fitting = {"corners": list(corners), "shown": self.version} if 0 < len(corners) <= CORNERS_MAX else {}
         answer = self.call("batch", seconds, page=self._token, lines=list(lines), seen=list(seen), **fitting)
         if "refused" in answer:

@@ -19,6 +19,9 @@ Key = TypeVar("Key", bound=Hashable)
 _ROUNDS = 30
 """How often edges are parted where they cross: a corner that was rounded may make edges cross that did not before."""
 
+# In so many bands of y the edges of a cycle are sorted.
+_BANDS = 200
+
 
 @dataclass
 class Face(Generic[Key]):
@@ -41,6 +44,8 @@ class _Cycle(Generic[Key]):
     """Twice the area that it goes round to the left; what is outside of all has none above 0."""
     box: tuple[int, int, int, int]
     """Least x and y, greatest x and y."""
+    bands: dict[int, list[Edge]] = field(default_factory=dict)
+    """The edges by the bands of y that they are in; made when a point is searched in many edges."""
     part: int = -1
     """Which of the parts of the borders that hang together it is of."""
     winds: dict[Key, int] = field(default_factory=dict)
@@ -249,4 +254,12 @@ def _around(outer: _Cycle[Key], parts: Sequence[Sequence[_Cycle[Key]]]) -> _Cycl
 def _has(cycle: _Cycle[Key], point: Point) -> bool:
     """Whether a point lies within a cycle."""
     left, bottom, right, top = cycle.box
-    return left < point[0] < right and bottom < point[1] < top and is_inside(exact(point), cycle.edges)
+    if not (left < point[0] < right and bottom < point[1] < top):
+        return False
+    high = (top - bottom) // _BANDS + 1
+    if not cycle.bands:
+        for edge in cycle.edges:
+            low, up = sorted((edge[0][1], edge[1][1]))
+            for band in range((low - bottom) // high, (up - bottom) // high + 1):
+                cycle.bands.setdefault(band, []).append(edge)
+    return is_inside(exact(point), cycle.bands[(point[1] - bottom) // high])

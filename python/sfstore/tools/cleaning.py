@@ -4,6 +4,7 @@ from __future__ import annotations
 
 from collections import Counter, defaultdict
 from collections.abc import Hashable, Iterable, Iterator, Mapping, Sequence
+from dataclasses import dataclass
 from decimal import Decimal
 from fractions import Fraction
 from math import isqrt
@@ -31,7 +32,8 @@ _ROUNDS = 8
 _PARTS = 1_000
 
 
-class Defect(NamedTuple, Generic[Key]):
+@dataclass(frozen=True)
+class Defect(Generic[Key]):
     """An overlap or a gap."""
 
     is_gap: bool
@@ -57,7 +59,8 @@ class Changed(NamedTuple):
     """A corner where it is another one."""
 
 
-class Cleaning(NamedTuple, Generic[Key]):
+@dataclass(frozen=True)
+class Cleaning(Generic[Key]):
     """What was cleaned of a coverage, and what was left."""
 
     changed: dict[Key, Changed]
@@ -83,9 +86,10 @@ class Plan(NamedTuple):
 def cleaning(store: Editor, layer: str, within: Distance) -> Plan:
     """What would be cleaned of the areas of a layer: nothing is done. The distance is in grid steps.
 
-    Corners and edges of different features that are no farther apart become one. Then each overlap that is narrower goes to one of
-    those that overlap, and each gap to one of those around it: to the one with which it has the longest border. How wide one
-    is, is twice its area by the length of its border. What is wider stays as it is, and is shown.
+    Each overlap that is narrower goes to one of those that overlap, and each gap to one of those around it: to the one with which
+    it has the longest border. How wide one is, is twice its area by the length of its border. What is wider stays as it is, and
+    is shown. Then corners and edges of different features that are no farther apart become one. `NotDone` where nothing would be
+    left of a feature.
 
     >>> from sfstore import Store
     >>> with Store() as store:
@@ -105,7 +109,11 @@ def cleaning(store: Editor, layer: str, within: Distance) -> Plan:
 
 
 def clean(store: Editor, layer: str, within: Distance) -> Cleaning[Which]:
-    """Takes away what `cleaning` finds, as one step. What was cleaned, and what was left."""
+    """Takes away what `cleaning` finds, as one step, or as several where a group has not room for all.
+
+    What was cleaned, and what was left. `NotDone` where nothing would be left of a feature, and `Refused` where the program
+    refuses a group. In both cases nothing has changed.
+    """
     plan = cleaning(store, layer, within)
     plan.carry_out(store)
     return plan.cleaning
@@ -122,12 +130,12 @@ def cleaned(shapes: Mapping[Key, Shape], within: Distance) -> Cleaning[Key]:
     moved = 0
     for _ in range(_ROUNDS):
         whole = {key: written(polygons_of(edges)) for key, edges in coverage.borders().items()}
-        lines, moves = joined(whole, Reach(steps), apart=True)
-        if not moves:
+        near = joined(whole, Reach(steps), apart=True)
+        if not near.moves:
             break
-        moved += len(moves)
+        moved += len(near.moves)
         settled += (defect for defect in coverage.defects if defect.to is not None)
-        coverage = _Coverage({key: _directed(whole[key], members) for key, members in lines.items()}, steps)
+        coverage = _Coverage({key: _directed(whole[key], members) for key, members in near.lines.items()}, steps)
     return Cleaning(_changed(areas, coverage.borders()), settled + coverage.defects, moved)
 
 

@@ -35,6 +35,7 @@ class Drafting(Editor):
         """The members of each group."""
 
     def together(self) -> Group:
+        """A group that is kept in `groups` at its end, and not sent: what it adds has the identifier 0."""
         return _Draft(self)
 
 

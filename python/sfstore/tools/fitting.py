@@ -3,17 +3,17 @@
 from __future__ import annotations
 
 from collections import defaultdict
-from collections.abc import Iterable, Iterator, Sequence
+from collections.abc import Collection, Iterable, Iterator, Sequence
 from fractions import Fraction
 from functools import partial
 from typing import NamedTuple
 
 from sfstore.editor import Editor
 from sfstore.geometry import Flat, Shape, read_wkt, write_wkt
-from sfstore.language import words_of_line
+from sfstore.language import GRID_MAX, GRID_MIN, words_of_line
 from sfstore.results import Refused
 from sfstore.tools.cutting import Cut, bent_by, with_corners
-from sfstore.tools.nearby import foot
+from sfstore.tools.nearby import Nearby, foot
 from sfstore.tools.pins import pairs, pins_of, points_of, shape_of
 from sfstore.tools.places import Place, exact, lies_on
 from sfstore.tools.rings import Edge, Point
@@ -69,7 +69,8 @@ def fitted(store: Editor, lines: Sequence[str], corners: Sequence[Corner]) -> Fi
     if not bent:
         return Fitted(list(lines), [])
     points = {point for shape in drawn.values() for member in shape.members for line in member for point in points_of(line)}
-    cut.pins = pins_of(store, layers, bent) | {point for point in points if any(lies_on(exact(point), edge) for edge in bent)}
+    near = _index(bent, points)
+    cut.pins = pins_of(store, layers, bent) | {point for edge in bent for point in near.around(*edge, 0) if lies_on(exact(point), edge)}
     found = list(lines)
     chains = _Chains(cut.stops(edge) for edge in bent)
     for place, shape in drawn.items():
@@ -113,7 +114,8 @@ def _near(store: Editor, layers: Sequence[str], corners: Sequence[Corner]) -> di
     """The features of layers that have something near a corner, as they are; points aside, which have no edge."""
     found: dict[Which, Shape] = {}
     for x, y in sorted({corner.to for corner in corners}):
-        box = f"POLYGON (({x - 1} {y - 1}, {x + 1} {y - 1}, {x + 1} {y + 1}, {x - 1} {y + 1}, {x - 1} {y - 1}))"
+        left, bottom, right, top = max(x - 1, GRID_MIN), max(y - 1, GRID_MIN), min(x + 1, GRID_MAX), min(y + 1, GRID_MAX)
+        box = f"POLYGON (({left} {bottom}, {right} {bottom}, {right} {top}, {left} {top}, {left} {bottom}))"
         for layer in layers:
             for feature in _found(store, layer, box):
                 if (layer, feature) not in found:
@@ -122,7 +124,7 @@ def _near(store: Editor, layers: Sequence[str], corners: Sequence[Corner]) -> di
 
 
 def _found(store: Editor, layer: str, box: str) -> list[int]:
-    """The features that meet a box; none where it leaves the grid, or where the layer comes by a line of the same batch."""
+    """The features that meet a box; none where the layer comes by a line of the same batch."""
     try:
         return store.query(layer, "intersects", box)
     except Refused:
@@ -132,11 +134,25 @@ def _found(store: Editor, layer: str, box: str) -> list[int]:
 def _feet(shapes: Iterable[Shape], corners: Sequence[Corner]) -> Iterator[tuple[Place, Point]]:
     """Where corners lie on edges, each with the point of the grid that is taken for it."""
     edges = {(min(edge), max(edge)) for shape in shapes for member in shape.members for line in member for edge in pairs(points_of(line))}
+    near = _index(edges, {corner.to for corner in corners})
+    drawn: dict[Point, list[Place]] = defaultdict(list)
+    for corner in corners:
+        drawn[corner.to].append(corner.at)
     for edge in sorted(edges):
-        for corner in corners:
-            if edge[0] != edge[1] and _is_beside(corner.at, edge) and corner.to not in edge:
+        for point in near.around(*edge, 1):
+            if point in edge:
+                continue
+            if lies_on(exact(point), edge):
                 # One that is on the edge where it was rounded to bends nothing.
-                yield (exact(corner.to) if lies_on(exact(corner.to), edge) else foot(corner.at, edge)), corner.to
+                yield exact(point), point
+            else:
+                yield from ((foot(at, edge), point) for at in drawn[point] if _is_beside(at, edge))
+
+
+def _index(edges: Collection[Edge], points: Iterable[Point]) -> Nearby:
+    """Points in squares about as large as edges are."""
+    spans = [b[0] - a[0] + abs(b[1] - a[1]) for a, b in edges]
+    return Nearby(sum(spans) // max(len(spans), 1), points)
 
 
 def _is_beside(at: Place, edge: Edge) -> bool:

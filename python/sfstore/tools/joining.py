@@ -4,7 +4,8 @@ from __future__ import annotations
 
 from collections import defaultdict
 from collections.abc import Hashable, Iterable, Mapping
-from typing import Generic, NamedTuple, TypeVar
+from dataclasses import dataclass
+from typing import Generic, TypeVar
 
 from sfstore.geometry import Shape
 from sfstore.tools.nearby import Nearby, Reach, foot
@@ -20,7 +21,8 @@ _ROUNDS = 8
 """How often edges that were bent are looked at again: one passes by further nodes then."""
 
 
-class Move(NamedTuple, Generic[Key]):
+@dataclass(frozen=True)
+class Move(Generic[Key]):
     """A node that is moved to another one, or a place of an edge that is moved to a node."""
 
     at: Place
@@ -29,7 +31,8 @@ class Move(NamedTuple, Generic[Key]):
     """Those that have the node, or the edge."""
 
 
-class Joined(NamedTuple, Generic[Key]):
+@dataclass(frozen=True)
+class Joined(Generic[Key]):
     """Geometries whose nodes and edges near one another are one."""
 
     lines: dict[Key, list[list[list[Point]]]]

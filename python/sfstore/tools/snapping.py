@@ -63,17 +63,21 @@ def snapping(store: Editor, layers: Sequence[str], within: Distance) -> Snapping
     """
     reach = Reach(_distance(within))
     before = {(layer, feature.id): read_wkt(feature.wkt) for layer in dict.fromkeys(layers) for feature in store.show(layer)}
-    lines, moves = joined(before, reach)
+    near = joined(before, reach)
     changed = {}
-    for which, members in lines.items():
-        shape = _remade(which, before[which], members, moves)
+    for which, members in near.lines.items():
+        shape = _remade(which, before[which], members, near.moves)
         if shape != _as_whole(before[which]):
             changed[which] = shape
-    return Snapping(moves, {which: before[which] for which in changed}, changed)
+    return Snapping(near.moves, {which: before[which] for which in changed}, changed)
 
 
 def snap(store: Editor, layers: Sequence[str], within: Distance) -> list[Move[Which]]:
-    """Makes one what `snapping` finds near one another, as one step. What was moved."""
+    """Makes one what `snapping` finds near one another, as one step, or as several where a group has not room for all.
+
+    What was moved. `NotDone` where nothing would be left of a feature, and `Refused` where the program refuses a group. In both
+    cases nothing has changed.
+    """
     plan = snapping(store, layers, within)
     plan.carry_out(store)
     return plan.moves

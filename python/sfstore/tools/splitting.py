@@ -53,7 +53,9 @@ def split(store: Editor, layer: str, feature_id: int, line: str, *, beside: Sequ
     check_parted(cut, edges, points, border, f"{layer} {feature_id}")
     parts = sorted(polygons_of(edges), key=lambda part: -doubled(part.shell))
     if len(parts) < 2:
-        raise NotDone(f"the line does not part {layer} {feature_id}: see {{}}", loose_end(cut, (a for a, _ in edges)) or points[0])
+        loose = loose_end(cut, (a for a, _ in edges))
+        where = "it begins at" if loose is None else "it ends inside of it at"
+        raise NotDone(f"the line does not part {layer} {feature_id}: {where} {{}}", loose or points[0])
     texts = [write_wkt(Shape(shape.code, written([part]).members)) for part in parts]
     [feature] = store.get(layer, feature_id)
     with store.together() as group:

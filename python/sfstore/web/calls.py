@@ -75,7 +75,7 @@ _DRAWINGS_MAX = 5
 _OVERTAKEN = "Others edit all the time just now: try it again. Nothing was done."
 
 # How many corners are put into borders beside, and how long the text of a coordinate is.
-_CORNERS_MAX, _CORNER_LETTERS_MAX = 2_000, 200
+_CORNERS_MAX, _CORNER_LETTERS_MAX = 500, 200
 
 # How much of a line others are told.
 _LINE_SHOWN = 1_000

@@ -301,7 +301,7 @@ class InMapUnits(TestCase):
         for words in (
             "ok: w 2, 3\n",
             "2 POLYGON ((500000.00 5600000.00, 500005.00 5600005.00, 500000.00 5600010.00, 500000.00 5600000.00))",
-            "Not done: the line does not part w 2: see (500001.00 5600000.00).",
+            "Not done: the line does not part w 2: it begins at (500001.00 5600000.00).",
             "Not done: the line crosses itself in w 2 at (~500002.11111 5600003.00).\n",
             "split takes a layer, a number and a LINESTRING",
             "x 500000.005 lies between two places of the grid",

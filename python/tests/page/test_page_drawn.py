@@ -127,7 +127,7 @@ class Drawn(PageCase):
 
     def test_nothing_is_selected(self):
         page = self.page(self.serving, "Ben")
-        page.tool("merge")
+        page.press("m")
         page.until(lambda: page.text("#status").startswith("Select an area first"))
         page.click((450, 100))
         page.until(lambda: page.text("#status").startswith("Select an area first"))

@@ -152,7 +152,7 @@ class Fitting(WebCase):
         for corner in (["7/3", "10", 2], ["x", "10", 2, 10], ["7/0", "10", 2, 10], [2.5, "10", 2, 10], ["7/3", "10", 2.5, 10], ["7/3", "10", 2**40, 10], 7):
             body = {"page": "page", "lines": list(self.LINES), "seen": [self.ann.version(), None], "corners": [corner], "shown": self.ann.version()}
             self.assertEqual(self.serving.posted("/batch", self.ann.key, **body)[0], 400, corner)
-        body["corners"] = [list(self.CORNER)] * 2_001
+        body["corners"] = [list(self.CORNER)] * 501
         self.assertEqual(self.serving.posted("/batch", self.ann.key, **body)[0], 400)
 
 

@@ -7,9 +7,9 @@ import random
 import parcels_model as coverage
 from support import TestCase
 
-from sfstore import Refused
+from sfstore import Refused, Store
 from sfstore.geometry import read_wkt
-from sfstore.tools import NotDone, border
+from sfstore.tools import NotDone, border, merge, split
 from sfstore.tools.rings import Point, edges_of, polygons_of, split_at
 
 LEFT, RIGHT = "POLYGON ((0 0, 10 0, 10 10, 0 10, 0 0))", "POLYGON ((10 0, 20 0, 20 10, 10 10, 10 0))"
@@ -82,6 +82,16 @@ class Borders(TestCase):
         whole = [edge for text in found for edge in edges_of(read_wkt(text))]
         parted = set(split_at(whole, [a for a, _ in whole]))
         self.assertEqual([polygon.holes for polygon in polygons_of((a, b) for a, b in parted if (b, a) not in parted)], [[]])
+
+    def test_a_fence_beside_gets_the_corner(self) -> None:
+        """The line ends on the slanted border above the two, along which a fence of another layer stands."""
+        ids = [self.store.add("p", text) for text in ("POLYGON ((0 0, 10 0, 10 10, 0 13, 0 0))", RIGHT)]
+        self.store.add_layer("fences")
+        self.store.add("fences", "LINESTRING (-5 20, 0 13, 10 10, 20 10)")
+        self.assertEqual(border(self.store, "p", *ids, "LINESTRING (10 0, 8 12)", beside=["fences"]), [("p", 1), ("p", 2), ("fences", 1)])
+        self.assertEqual(self.store.show("fences")[0].wkt, "LINESTRING (-5 20, 0 13, 8 11, 10 10, 20 10)")
+        self.store.undo()
+        self.assertEqual(self.store.show("fences")[0].wkt, "LINESTRING (-5 20, 0 13, 10 10, 20 10)")
 
     def test_an_island(self) -> None:
         lake = "POLYGON ((0 0, 20 0, 20 20, 0 20, 0 0), (5 5, 5 9, 9 9, 9 5, 5 5))"
@@ -165,3 +175,57 @@ class Coverage(TestCase):
             for _ in range(moved):
                 store.undo()
             self.assertEqual(store.show("parcels"), first)
+
+
+class Coarse(TestCase):
+    """Coverages on a grid so coarse that each corner is moved by much: merged, parted, and with borders and corners moved, at random."""
+
+    def test_no_gap_whatever_is_drawn(self) -> None:
+        done = 0
+        for seed in range(12):
+            chance = random.Random(seed)
+            with coverage.opened() as store:
+                coverage.make(store, 4, chance, chance.choice([12, 30, 100]))
+                first = store.show("parcels")
+                steps = 0
+                for _ in range(40):
+                    try:
+                        steps += chance.choice([self.merge, self.split, self.border, self.border, self.border])(store, chance)
+                    except NotDone as fault:
+                        self.assertTrue(str(fault))
+                    except Refused as refused:
+                        self.assertIn(refused.number, (*range(10, 18), 37))
+                    whole = coverage.outline(feature.wkt for feature in store.show("parcels"))
+                    self.assertEqual([polygon.holes for polygon in whole], [[]], seed)
+                for _ in range(steps):
+                    store.undo()
+                self.assertEqual(store.show("parcels"), first)
+                done += steps
+        self.assertGreater(done, 200)
+
+    def pair(self, store: Store, chance: random.Random) -> tuple[int, int]:
+        """Two parcels that share a border."""
+        return chance.choice([pair for pair in store.join("parcels", "F***1****", "parcels")])
+
+    def merge(self, store: Store, chance: random.Random) -> int:
+        merge(store, "parcels", *self.pair(store, chance))
+        return 1
+
+    def split(self, store: Store, chance: random.Random) -> int:
+        parcel = self.pair(store, chance)[0]
+        left, bottom, right, top = store.box("parcels", parcel)
+        split(store, "parcels", parcel, f"LINESTRING ({left - 3} {chance.randint(bottom, top)}, {chance.randint(left, right)} {chance.randint(bottom, top)}, {right + 3} {chance.randint(bottom, top)})")
+        return 1
+
+    def border(self, store: Store, chance: random.Random) -> int:
+        """A border between ends of a stretch, or near them, by a corner that lies somewhere beside it."""
+        one, other = self.pair(store, chance)
+        corners = [[a for a, _ in edges_of(read_wkt(store.get("parcels", each)[0].wkt))] for each in (one, other)]
+        shared = [corner for corner in corners[0] if corner in corners[1]]
+        if len(shared) < 2:
+            return 0
+        begin, end = chance.sample(shared, 2)
+        far = 3 if chance.random() < 0.5 else 0
+        points = [(x + chance.randint(-wide, wide), y + chance.randint(-wide, wide)) for (x, y), wide in ((begin, far), (chance.choice(shared), 9), (end, far))]
+        border(store, "parcels", one, other, f"LINESTRING ({', '.join(f'{x} {y}' for x, y in points)})")
+        return 1

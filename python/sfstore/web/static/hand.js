@@ -20,7 +20,7 @@ export class Hand {
   }
 
   #buttons() {
-    return byId("tools").querySelectorAll("button");
+    return document.querySelectorAll("button[data-tool]");
   }
 
   setTool(tool) {
