@@ -646,19 +646,20 @@ class Editor:
         """Adds a rule on the values in a column of a layer, where it holds.
 
         With ``unique`` no two features have the same value there; of features without a value nothing is asked.
-        With ``required`` each feature has a value there: so one is added and given its value as one step, by `add` with
-        values or in a `together`. An edit that would break the rule is refused as with `add_rule`.
+        With ``required`` each feature has a value there: so one is added and given its value as one step, in a
+        `together`. An edit that would break the rule is refused as with `add_rule`.
 
         >>> with Store() as store:
         ...     store.add_layer("parcels", "point")
         ...     store.add_column("parcels", "number", "text")
         ...     store.add_value_rule("numbers", "unique", "parcels", "number")
-        ...     store.add("parcels", "POINT (3 4)", {"number": "17/4"})
+        ...     for x in 3, 5:
+        ...         added = store.add("parcels", f"POINT ({x} 4)")
+        ...     store.set("parcels", 1, "number", "17/4")
         ...     try:
-        ...         store.add("parcels", "POINT (5 6)", {"number": "17/4"})
+        ...         store.set("parcels", 2, "number", "17/4")
         ...     except Refused as refused:
         ...         refused.rule, refused.ids
-        1
         ('numbers', [1, 2])
         """
         spelling.one_of(Demand, demand)

@@ -269,13 +269,13 @@ COMMANDS = [
     Command(
         "rule add NAME unique LAYER COLUMN",
         "from now on no two features of the layer have the same value there",
-        "rule add numbers unique parcels number",
+        "rule add labels unique wells label",
         "rules",
     ),
     Command(
         "rule add NAME required LAYER COLUMN",
         "from now on each feature of the layer has a value there",
-        "rule add numbered required parcels number",
+        "rule add labelled required wells label",
         "rules",
     ),
     Command("rule drop NAME", "drops a rule", "rule drop apart", "rules"),

@@ -64,6 +64,8 @@ class Language(TestCase):
                     store.run("column add wells depth int")
                 if command.usage.startswith("rule drop"):
                     store.run("rule add apart never wells equals wells")
+                if " required " in command.usage:
+                    store.run("set wells 1 label 'a'")
                 store.run("layer add before any")
                 try:
                     store.run(command.example + "\rset wells 1 label 'a'\rset wells 1 label 'b'" * (command.word == "together"))

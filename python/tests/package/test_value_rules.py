@@ -130,6 +130,13 @@ class Lived(TestCase):
         self.assertEqual(ended.returncode, 0, ended.stderr)
         self.assertEqual(ended.stdout.splitlines(), wanted)
 
+    def added(self, store, layer, wkt, **values):
+        """Adds a feature with its values, as one step."""
+        with store.together() as group:
+            feature = group.add(layer, wkt)
+            for column, value in values.items():
+                group.set(layer, feature, column, value)
+
     def test_by_the_module(self):
         with Store(PROGRAM) as store:
             store.add_layer("parcels", "polygon")
@@ -144,9 +151,9 @@ class Lived(TestCase):
             with self.assertRaises(Refused) as caught:
                 store.add("parcels", square)
             self.assertEqual((caught.exception.rule, caught.exception.ids), ("numbered", [1]))
-            store.add("parcels", square, {"number": "17/4"})
+            self.added(store, "parcels", square, number="17/4")
             with self.assertRaises(Refused) as caught:
-                store.add("parcels", square, {"number": "17/4"})
+                self.added(store, "parcels", square, number="17/4")
             self.assertEqual((caught.exception.rule, caught.exception.ids), ("numbers", [1, 2]))
 
     def test_of_a_thousand_with_their_index_kept(self):
@@ -156,7 +163,7 @@ class Lived(TestCase):
             store.add_column("p", "n", "int")
             store.add_value_rule("numbers", "unique", "p", "n")
             for number in range(1_000):
-                store.add("p", f"POINT ({number} 0)", {"n": number})
+                self.added(store, "p", f"POINT ({number} 0)", n=number)
             chance = random.Random(7)
             for _ in range(300):
                 feature, value = chance.randrange(1, 1_001), chance.randrange(2_000)
@@ -175,15 +182,15 @@ class Lived(TestCase):
 class Kept(TestCase):
     def test_files_and_undo(self):
         """Rules on values are saved, loaded, kept and undone as others."""
-        path = f"{self.folder()}/s.sfs"
-        with Store(PROGRAM) as store:
+        path = self.folder / "s.sfs"
+        with Store(PROGRAM, save=path) as store:
             store.add_layer("p", "point")
             store.add_column("p", "n", "text")
-            store.add("p", "POINT (1 1)", {"n": "a"})
+            store.add("p", "POINT (1 1)")
+            store.set("p", 1, "n", "a")
             store.add_value_rule("numbers", "unique", "p", "n")
             store.add_value_rule("numbered", "required", "p", "n")
             store.rename_layer("p", "parcels")
-            store.save(path)
         with Store(PROGRAM, load=path) as store:
             rules = [ValueRule("numbers", "unique", "parcels", "n"), ValueRule("numbered", "required", "parcels", "n")]
             self.assertEqual(store.rules(), rules)
