@@ -843,6 +843,9 @@ class Words(TestCase):
         members = "\rset wells 1 depth 12\rset wells 1 depth 13"
         lines += [line + members * (line == "together 2") for line in order if not line.startswith(late)]
         lines.insert(lines.index("column add wells depth int"), "column add wells label text")
+        required = "rule add labelled required wells label"
+        place = lines.index(required)
+        lines[place : place + 1] = ["set wells 2 label 'the second'", required, "rule drop labelled", "rule drop labels"]
         lines += ["unset wells 1 label", "delete wells 1", "undo", "redo", "column drop wells depth"]
         lines += ["layer rename roads streets", "layer drop wells"]
         with Store(PROGRAM) as store:
