@@ -372,14 +372,14 @@ class Files(TestCase):
 
     def test_files_taken_apart(self) -> None:
         examples = self.examples()
-        self.assertEqual(len(examples), 2)
+        self.assertEqual(len(examples), 3)
         for lines, wanted in examples:
             path = self.folder / "saved.sfs"
             answers(lines, f"--save={path}")
             self.assertEqual(path.read_bytes().hex(), wanted.hex())
 
     def test_each_damage_is_refused_at_its_place(self) -> None:
-        _, (_, sound) = self.examples()
+        _, (_, sound), _ = self.examples()
         places = {"type": 30, "mantissa": 104, "places": 112, "bool": 115, "date": 118, "datetime": 124, "milliseconds": 128}
         # Where bytes are put, which ones, and where the fault is then; none where the file is one still.
         changes = [
