@@ -30,7 +30,7 @@ def small_stack() -> None:
 def run(program: Path, *words: str, text: bytes) -> bytes:
     """What a program with a small stack writes."""
     ended = subprocess.run(
-        [program, *words], input=text, env=NO_VARIABLES, preexec_fn=small_stack, check=True, capture_output=True, timeout=300
+        [program, *words], input=text, env=NO_VARIABLES, preexec_fn=small_stack, check=True, capture_output=True, timeout=900
     )
     return ended.stdout
 
