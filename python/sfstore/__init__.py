@@ -18,6 +18,7 @@ from sfstore.store import (
     Answer,
     Column,
     ColumnType,
+    Demand,
     Distance,
     Editor,
     Feature,
@@ -37,6 +38,7 @@ from sfstore.store import (
     SidecarError,
     Store,
     Value,
+    ValueRule,
     Which,
 )
 
@@ -45,6 +47,7 @@ __all__ = [
     "Answer",
     "Column",
     "ColumnType",
+    "Demand",
     "Distance",
     "Editor",
     "Feature",
@@ -65,5 +68,6 @@ __all__ = [
     "SidecarError",
     "Store",
     "Value",
+    "ValueRule",
     "Which",
 ]

@@ -32,6 +32,7 @@ from sfstore.results import (
     Answer,
     Column,
     ColumnType,
+    Demand,
     Distance,
     Feature,
     Kind,
@@ -46,6 +47,7 @@ from sfstore.results import (
     Rule,
     RuleForm,
     Value,
+    ValueRule,
 )
 from sfstore.rows import row_values
 from sfstore.sidecar import Sidecar, SidecarError
@@ -59,6 +61,7 @@ __all__ = [
     "Answer",
     "Column",
     "ColumnType",
+    "Demand",
     "Distance",
     "Editor",
     "Feature",
@@ -78,6 +81,7 @@ __all__ = [
     "SidecarError",
     "Store",
     "Value",
+    "ValueRule",
     "Which",
     "row_values",
 ]

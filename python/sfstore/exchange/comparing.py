@@ -11,6 +11,7 @@ from typing import Any
 
 from sfstore.exchange import geojson, ogr, wayback
 from sfstore.exchange.columns import DATE, DATE_TIME, INTEGER, INTEGER_64, REAL, Sort, values_of
+from sfstore.exchange.constraints import demands_of
 from sfstore.exchange.formats import FORMATS, Part
 from sfstore.exchange.grid import Grid
 from sfstore.exchange.moments import day_of, moment_of, text_of_day, text_of_moment
@@ -131,6 +132,8 @@ class _LayerCheck:
                     f"the column {ogr.printable(field.GetName())} has the type {field.GetTypeName()} "
                     f"in place of {self._part.sorts[number].type}"
                 )
+            if demands_of(field) != self._part.demands.get(number, frozenset()):
+                raise self._other(f"the column {ogr.printable(field.GetName())} has other constraints")
 
     def _is_type(self, sort: Sort, there: str, number: int) -> bool:
         """Whether a column has its type: the very one, or in text formats one that the values show."""

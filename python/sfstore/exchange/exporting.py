@@ -19,6 +19,7 @@ from sfstore import files, journal, sidecar
 from sfstore.commandline import add_version, reason_of
 from sfstore.exchange import ogr, outcome, rulesfile, wayback
 from sfstore.exchange.asking import tables_of
+from sfstore.exchange.constraints import rules_said
 from sfstore.exchange.formats import FORMATS, Part, format_of, parts_of, rules_kept
 from sfstore.exchange.geojson import crs_member
 from sfstore.exchange.grid import Grid
@@ -62,6 +63,8 @@ class Wishes:
     """The file that all rules are written to."""
     is_same_map: bool = False
     """Whether the side-car is that of the store, though a program has saved the store without it."""
+    constrains: bool = False
+    """Whether columns of a GeoPackage are to demand what rules on values do."""
 
 
 def give_back(wishes: Wishes, say: Say) -> None:
@@ -88,6 +91,8 @@ def give_back(wishes: Wishes, say: Say) -> None:
     for line in told:
         say(line)
     kept = rules_kept(rules, parts, wanted)
+    if wishes.constrains:
+        parts = [_constrained(part, rules) for part in parts]
     losses += wanted.losses(parts) + _blurred(parts, Grid(*found.grid))
     if wishes.format == "GeoJSON" and crs_member(found.crs) is None:
         losses.append("the reference system, which has no code: programs take degrees" if found.crs else NO_CRS)
@@ -105,6 +110,12 @@ def give_back(wishes: Wishes, say: Say) -> None:
         _keep_grid(wishes, found)
     if wishes.rules is not None:
         _write_rules(wishes, wishes.rules, rules, say)
+
+
+def _constrained(part: Part, rules: list[AnyRule]) -> Part:
+    """A layer whose columns demand what rules do."""
+    said = rules_said(part.layer.name, rules)
+    return part._replace(demands={column.number: said[column.name] for column in part.layer.columns if column.name in said})
 
 
 def _left_out(wishes: Wishes, parts: list[Part], found: Sidecar) -> list[str]:
@@ -332,6 +343,7 @@ def _parser() -> argparse.ArgumentParser:
     parser.add_argument("--crs", help="its reference system, such as EPSG:25832")
     parser.add_argument("--same-map", action="store_true", help="the side-car is the store's for certain")
     parser.add_argument("--rules", metavar="RULES", help="write the rules to this file, for --rules of sfstore-import")
+    parser.add_argument("--constraints", action="store_true", help="of a .gpkg: UNIQUE and NOT NULL for rules on values")
     parser.add_argument("--overwrite", action="store_true", help="replace files of the names that are written")
     parser.add_argument("--program", default="sfstore", help="the program sfstore")
     add_version(parser)
@@ -345,6 +357,8 @@ def main(words: list[str] | None = None) -> int:
     name = asked.format or format_of(asked.target)
     if name is None:
         parser.error("the target names no format: end it with .gpkg, or say --format")
+    if asked.constraints and name != "GPKG":
+        parser.error("--constraints goes with a .gpkg")
     if asked.crs and not asked.grid:
         parser.error("--crs goes with --grid")
     if asked.same_map and asked.grid:
@@ -371,6 +385,7 @@ def main(words: list[str] | None = None) -> int:
         asked.crs,
         asked.rules,
         asked.same_map,
+        asked.constraints,
     )
 
     def work() -> int:

@@ -17,6 +17,7 @@ from typing import Any, NamedTuple
 from sfstore.exchange import flatgeobuf, ogr
 from sfstore.exchange.asking import asked, quoted, table_of, tells_apart
 from sfstore.exchange.columns import DATE, DATE_TIME, INTEGER, INTEGER_64, REAL, STRING
+from sfstore.exchange.constraints import demands_of
 from sfstore.exchange.jsontext import text_of
 from sfstore.exchange.layers import Fault, Feature, Left, SourceColumns
 from sfstore.exchange.moments import day_of, moment_of, text_of_day, text_of_moment, text_of_time
@@ -24,7 +25,7 @@ from sfstore.exchange.names import Names, kept_name
 from sfstore.exchange.shapefiles import foreign_columns, odd_values
 from sfstore.exchange.stored import MAKERS, Made, whole_of
 from sfstore.language import TEXT_MAX
-from sfstore.results import Value
+from sfstore.results import Demand, Value
 from sfstore.sidecar import ColumnOrigin
 from sfstore.storefile import BOOL, DATETIME, DECIMAL, INT, TEXT, FileColumn, FileFeature
 from sfstore.storefile import DATE as FILE_DATE
@@ -215,6 +216,12 @@ class Fields(SourceColumns):
             for (name, change), count in self._changed.items()
         ]
         return columns, features, [self._origins[field.number] for field in self._fields]
+
+    def demands(self) -> dict[str, frozenset[Demand]]:
+        """What the source demands of the columns that are taken, by their names; of those of which it demands something."""
+        definition = self._layer.GetLayerDefn()
+        found = {field.name: demands_of(definition.GetFieldDefn(field.place)) for field in self._fields}
+        return {name: demands for name, demands in found.items() if demands}
 
     def _final_type(self, field: _Field) -> int:
         """The type of a column in the store."""

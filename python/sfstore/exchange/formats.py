@@ -3,15 +3,16 @@
 from __future__ import annotations
 
 import math
-from collections.abc import Callable, Iterable
+from collections.abc import Callable, Iterable, Mapping
 from dataclasses import dataclass
+from types import MappingProxyType
 from typing import NamedTuple
 
 from sfstore.exchange.columns import DATE, DATE_TIME, REAL, STRING, Sort, Survey, origin_of, sort_of, surveyed
 from sfstore.exchange.names import FreeNames
 from sfstore.exchange.ogr import printable
 from sfstore.language import COLUMN_TYPES
-from sfstore.results import AnyRule
+from sfstore.results import AnyRule, Demand
 from sfstore.sidecar import ColumnOrigin, LayerOrigin, Sidecar
 from sfstore.storefile import DATE as FILE_DATE
 from sfstore.storefile import BOOL, DATETIME, FileLayer
@@ -43,6 +44,8 @@ class Part(NamedTuple):
     """What the layer has."""
     sorts: dict[int, Sort]
     """The types of the columns by their numbers."""
+    demands: Mapping[int, frozenset[Demand]] = MappingProxyType({})
+    """What is demanded of columns, by their numbers: none of those that are not here."""
 
     @property
     def next_id(self) -> int:

@@ -22,6 +22,7 @@ from sfstore import sidecar
 from sfstore.commandline import add_version, reason_of
 from sfstore.exchange import ogr, outcome, rulesfile, wayback
 from sfstore.exchange.adding import Broken, add
+from sfstore.exchange.constraints import rules_of
 from sfstore.exchange.covering import clean_layer, width_of
 from sfstore.exchange.grid import Grid
 from sfstore.exchange.layers import Layer, Source
@@ -35,7 +36,7 @@ from sfstore.exchange.suggesting import suggestion
 from sfstore.exchange.telling import Brought, BroughtFeature, Telling
 from sfstore.language import COLUMN_TYPES, LAYERS_MAX
 from sfstore.refusals import words_of
-from sfstore.results import Column, Refused
+from sfstore.results import AnyRule, Column, Refused, ValueRule
 from sfstore.sidecar import Addition, Crs, Sidecar
 from sfstore.store import Store
 from sfstore.storefile import FileLayer
@@ -45,6 +46,8 @@ __all__ = ["Result", "Wishes", "add_in", "bring_in", "main", "parser"]
 
 # How much of the name of a reference system is shown.
 _NAME_SHOWN = 80
+# How many constraints of columns are shown.
+_CONSTRAINTS_SHOWN = 8
 
 
 @dataclass(frozen=True)
@@ -79,6 +82,8 @@ class Wishes:
     """How narrow overlaps and gaps of areas are that are taken away, in units of the source; none where all stay."""
     is_same_map: bool = False
     """Whether the side-car is that of the store, though a program has saved the store without it."""
+    takes_constraints: bool = False
+    """Whether what the source demands of columns becomes rules of a new store."""
 
     def taking(self, keeps_identifiers: bool = True) -> Taking:
         """How features are taken."""
@@ -165,6 +170,7 @@ def bring_in(wishes: Wishes) -> Result:
             contents = [clean_layer(*each, grid, wishes.width, report) for each in zip(contents, readings)]
     found = Sidecar(grid.words, crs, [reading.origin() for reading in readings])
     all_rules = left.rules + rules
+    all_rules += _constraints(wishes, readings, all_rules, report)
     rulings = publish(wishes.target, contents, found, wishes.program, wishes.overwrite, all_rules, sources)
     brought = {
         content.name: Brought(reading.source_name, partial(_features, content, reading))
@@ -172,6 +178,17 @@ def bring_in(wishes: Wishes) -> Result:
     }
     Telling(_shown_source(wishes), brought, grid, report).tell(rulings)
     return Result(report, crs)
+
+
+def _constraints(wishes: Wishes, readings: list[LayerImport], said: list[AnyRule], report: Report) -> list[ValueRule]:
+    """Rules for what the source demands of columns, where that is wanted. Else the report says that they are left aside."""
+    rules = rules_of((each for reading in readings for each in reading.constraints()), said)
+    if not rules or wishes.takes_constraints:
+        return rules
+    shown = ", ".join(f"{rule.demand} {rule.layer} {rule.column}" for rule in rules[:_CONSTRAINTS_SHOWN])
+    more = ", .." if len(rules) > _CONSTRAINTS_SHOWN else ""
+    report.note(_shown_source(wishes), f"constraints of columns are left aside: {shown}{more} (--constraints makes rules of them)")
+    return []
 
 
 def _shown_source(wishes: Wishes) -> str:
@@ -438,7 +455,7 @@ class _OneScreen(argparse.HelpFormatter):
     """Writes the help without a blank line at its end, so that it fits on a screen."""
 
     def format_help(self) -> str:
-        return super().format_help().replace("\n\nStatus", "\nStatus")
+        return super().format_help().replace("\n\nStatus", "\nStatus").replace("\n\nMakes", "\nMakes")
 
 
 def parser() -> argparse.ArgumentParser:
@@ -473,6 +490,7 @@ def parser() -> argparse.ArgumentParser:
     options.add_argument("--add", action="store_true", help="add to the store of FILE, as one step of its history")
     options.add_argument("--same-map", action="store_true", help="with --add: the side-car is the store's for certain")
     options.add_argument("--rules", metavar="RULES", help="add the rules of this file to the new store")
+    options.add_argument("--constraints", action="store_true", help="make rules of UNIQUE and NOT NULL of columns")
     options.add_argument("--report", metavar="FILE", help="write all that did not fit as text")
     options.add_argument("--faulty", metavar="FILE", help="write what did not fit, .geojson or .gpkg")
     options.add_argument("--overwrite", action="store_true", help="replace files, reports too")
@@ -516,6 +534,8 @@ def main(words: list[str] | None = None) -> int:
         wanted.error("--same-map goes with --add")
     if asked.rules and asked.add:
         wanted.error("--rules goes with a new store, and not with --add")
+    if asked.constraints and asked.add:
+        wanted.error("--constraints goes with a new store, and not with --add")
     if asked.clean is not None and asked.add:
         wanted.error("--clean goes with a new store, and not with --add: the console has `clean LAYER within D`")
     _check_files(wanted, asked)
@@ -561,6 +581,7 @@ def _bring_in(asked: argparse.Namespace, grid: Grid | None) -> int:
         asked.mend,
         asked.clean,
         asked.same_map,
+        asked.constraints,
     )
     report, crs, said, fault = add_in(wishes) if asked.add else bring_in(wishes)
     try:

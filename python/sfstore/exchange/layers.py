@@ -11,6 +11,7 @@ from collections.abc import Iterator, Mapping, Sequence
 from typing import Any, NamedTuple
 
 from sfstore.exchange.stamps import Stamps
+from sfstore.results import Demand
 from sfstore.sidecar import ColumnOrigin, Crs
 from sfstore.storefile import FileColumn, FileFeature
 
@@ -72,6 +73,10 @@ class SourceColumns(ABC):
 
     def forget_odd(self) -> None:
         """Lets go of what `find_odd` has found."""
+
+    def demands(self) -> dict[str, frozenset[Demand]]:
+        """What the source demands of the columns, by their names; of those of which it demands something."""
+        return {}
 
     @abstractmethod
     def values(self, feature: Feature) -> tuple[dict[int, Any], list[Fault]]:

@@ -7,6 +7,7 @@ from typing import Any, NamedTuple
 
 from sfstore.exchange import ogr
 from sfstore.exchange.columns import INTEGER_64
+from sfstore.exchange.constraints import Constraint
 from sfstore.exchange.grid import Grid, OffGrid, Outside, Rounding
 from sfstore.exchange.layers import Feature, Layer
 from sfstore.exchange.mending import mended
@@ -139,6 +140,11 @@ class LayerImport:
     def source_identifier(self, identifier: int) -> int:
         """The identifier in the source of a feature that was taken, by the one in the store."""
         return self._source_of(identifier)
+
+    def constraints(self) -> Iterator[Constraint]:
+        """What the source demands of the columns that were taken."""
+        for column, demands in self._fields.demands().items():
+            yield from (Constraint(self._name, column, demand) for demand in sorted(demands))
 
     def origin(self) -> LayerOrigin:
         """What the side-car keeps of the layer."""

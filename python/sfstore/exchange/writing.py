@@ -8,11 +8,12 @@ from typing import Any
 from sfstore.exchange import geojson, ogr, wayback
 from sfstore.exchange.columns import DATE, DATE_TIME, REAL, Sort, values_of
 from sfstore.exchange.comparing import compare
+from sfstore.exchange.constraints import constrain
 from sfstore.exchange.formats import FORMATS, Part
 from sfstore.exchange.grid import Grid
 from sfstore.exchange.moments import day_of, moment_of
 from sfstore.geometry import KINDS, read_wkb, write_wkb
-from sfstore.results import AnyRule
+from sfstore.results import AnyRule, Demand
 from sfstore.sidecar import Crs, Sidecar
 from sfstore.storefile import FileFeature
 
@@ -66,7 +67,8 @@ class _LayerExport:
         reference = ogr.spatial_reference(self._crs)
         target = self._data.CreateLayer(self._part.name, reference, self._kind(), self._options())
         for number, sort in self._part.sorts.items():
-            target.CreateField(self._field(self._part.columns[number], sort))
+            demands = self._part.demands.get(number, frozenset())
+            target.CreateField(self._field(self._part.columns[number], sort, demands))
         definition = target.GetLayerDefn()
         features = self._part.layer.features
         if self._format == "GPKG":
@@ -111,9 +113,10 @@ class _LayerExport:
         # An index puts features into another order. Without one OGR writes no byte of an empty layer.
         return [f"SPATIAL_INDEX={'NO' if self._part.survey.count else 'YES'}"]
 
-    def _field(self, name: str, sort: Sort) -> Any:
+    def _field(self, name: str, sort: Sort, demands: frozenset[Demand]) -> Any:
         """The definition of a column."""
         field = self._ogr.FieldDefn(name, getattr(self._ogr, f"OFT{sort.type}"))
+        constrain(field, demands)
         if sort.subtype != "None":
             field.SetSubType(getattr(self._ogr, f"OFST{sort.subtype}"))
         if sort.width:

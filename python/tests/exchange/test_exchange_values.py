@@ -355,7 +355,7 @@ class ReadBack(SetCase):
         )
         self.check(
             "the column t is missing",
-            self.replaced(writing._LayerExport, "_field", lambda self, name, sort: (self, name.upper(), sort)),
+            self.replaced(writing._LayerExport, "_field", lambda self, name, sort, demands: (self, name.upper(), sort, demands)),
             names=("GPKG", "FlatGeobuf", "ESRI Shapefile"),
         )
 
