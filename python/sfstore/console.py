@@ -456,7 +456,8 @@ class Console:
             # What is added stands in the journal, on top of the edits there.
             self._store.close(save=not asked.add)
             try:
-                importing.main([*words, self._path, *([] if asked.add else ["--overwrite"])])
+                # The store that has no layers gives way, as it is now. Reports do only where that was said.
+                importing.main([*words, self._path], "" if asked.add else files.digest(self._path))
             finally:
                 self._store = self._opened()
 

@@ -4,6 +4,7 @@ from __future__ import annotations
 
 import errno
 import fcntl
+import json
 import os
 import pty
 import re
@@ -22,6 +23,8 @@ from unittest import mock
 from support import FOLDER, PROGRAM, TestCase
 
 from sfstore import Store, commands, console, files, sidecar
+from sfstore.exchange import importing
+from sfstore.exchange.sources import open_source
 from sfstore.lines import geometry_of
 
 HAS_TOOLKIT = find_spec("prompt_toolkit") is not None
@@ -154,6 +157,36 @@ class Pasted(TestCase):
             shown, said = self.carry_out(lines, f"import {self.folder}/no.gpkg --grid 0 0 1", "n", "undo")
         self.assertEqual(shown, [("POINT (1 1)", {})])
         self.assertIn("Nothing is brought in", said)
+
+    def point(self) -> str:
+        """A source of one point that an import takes, and one that it reports."""
+        features = [{"type": "Feature", "properties": {}, "geometry": {"type": "Point", "coordinates": [x, 1]}} for x in (1, 1.5)]
+        source = self.folder / "w.geojson"
+        source.write_text(json.dumps({"type": "FeatureCollection", "name": "w", "features": features}))
+        return str(source)
+
+    @unittest.skipUnless(HAS_GDAL, "no GDAL")
+    def test_an_import_replaces_no_report_unasked(self):
+        notes, line = self.folder / "notes.txt", f"import {self.point()} --grid 0 0 1 --report {self.folder}/notes.txt"
+        notes.write_text("what I have written\n")
+        shown, said = self.carry_out(line)
+        self.assertEqual((shown, notes.read_text()), ([], "what I have written\n"))
+        self.assertIn("notes.txt is there already: --overwrite replaces it", said)
+        shown, _ = self.carry_out(f"{line} --overwrite")
+        self.assertEqual(shown, [("POINT (1 1)", {})])
+        self.assertIn("off the grid", notes.read_text())
+
+    @unittest.skipUnless(HAS_GDAL, "no GDAL")
+    def test_an_import_replaces_no_store_that_was_written_meanwhile(self):
+        def opened(*words: object) -> object:
+            with Store(self.folder / "town.sfs", journal=True, program=PROGRAM) as other:
+                other.run_all(["layer add w point", "add w POINT (7 7)"])
+            return open_source(*words)
+
+        with mock.patch.object(importing, "open_source", opened):
+            shown, said = self.carry_out(f"import {self.point()} --grid 0 0 1")
+        self.assertEqual(shown, [("POINT (7 7)", {})])
+        self.assertIn("was written by another program meanwhile", said)
 
     def test_a_group_that_was_pasted(self):
         begin = "layer add w point\ntogether 2\n\nadd w POINT (1 1)\r\nadd w POINT (2 2)\nundo\nredo"
