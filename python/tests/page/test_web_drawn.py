@@ -148,6 +148,14 @@ class Fitting(WebCase):
         status, answer = self.batch(self.ann, [self.LINES[0], "add p POLYGON ((2 10, 29 1, -20 30, 2 10))"])
         self.assertEqual(answer["refused"]["name"], "RuleBroken")
 
+    def test_no_edit_of_a_vertex_is_lost(self):
+        version = self.ann.version()
+        body = {"page": "page", "corners": [list(self.CORNER)], "shown": version}
+        for line in ("vertex move p 2 0 0 1 40 0", " vertex\tremove p 2 0 0 1", "vertex insert p 2 0 0 1 15 -3"):
+            status, answer = self.serving.posted("/batch", self.ann.key, **body, lines=[line, *self.LINES], seen=[version, version, None])
+            self.assertEqual((status, answer["error"][:43]), (400, "a batch with corners has no lines that edit"), line)
+        self.assertEqual(self.ann.line("show p")["rows"], [f"1 {self.LOWER}", f"2 {self.UPPER}"])
+
     def test_corners_that_are_none(self):
         for corner in (["7/3", "10", 2], ["x", "10", 2, 10], ["7/0", "10", 2, 10], [2.5, "10", 2, 10], ["7/3", "10", 2.5, 10], ["7/3", "10", 2**40, 10], 7):
             body = {"page": "page", "lines": list(self.LINES), "seen": [self.ann.version(), None], "corners": [corner], "shown": self.ann.version()}
