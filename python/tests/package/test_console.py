@@ -387,6 +387,17 @@ class InMapUnits(TestCase):
         self.assertIn("Nothing was done.\n", said)
         self.assertIn("ok: 1 feature, 1 step\nNothing is that near.\nThat line can't be read: snap takes layers, the word `within`, and a distance", said)
 
+    def test_a_part_or_a_hole_that_would_be_gone_is_shown_before(self):
+        large = "(500000 5600000, 500010 5600000, 500010 5600010, 500000 5600010, 500000 5600000)"
+        said = self.said(
+            "layer add p any",
+            f"add p MULTIPOLYGON (({large}), ((500020 5600020, 500020.03 5600020, 500020 5600020.03, 500020 5600020)))",
+            "add p POLYGON ((500030 5600000, 500040 5600000, 500040 5600010, 500030 5600000), (500036 5600003, 500036.03 5600003, 500036 5600003.03, 500036 5600003))",
+            "snap p within 0.05",
+            "n",
+        )
+        self.assertIn("p 1 would have 1 ring, and has 2\np 2 would have 1 ring, and has 2\n4 nodes would be moved, in 2 features.\n", said)
+
     def test_overlaps_are_shown_before_they_are_taken_away(self):
         said = self.said(
             "layer add p any",
