@@ -58,7 +58,7 @@ class Drawn(WebCase):
         self.assertIn("leads to no border at (12 5)", told["words"])
         self.assertEqual(self.ann.line("merge p 1 9")["refused"]["name"], "NoFeature")
         self.assertEqual(self.ann.line("split p 1 LINESTRING (4 4, 4 4)")["refused"]["name"], "ShortLine")
-        for line in ("split p", "node 1 2", "merge p 1 x", "preview snap", "preview save"):
+        for line in ("split p", "node 1 2", "merge p 1 x", "preview snap", "preview snap p within 3", "preview  clean p within 3", "preview save"):
             status, answer = self.ann.posted(line, 2**53 - 1)
             self.assertEqual(status, 400, line)
 
