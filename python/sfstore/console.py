@@ -49,6 +49,8 @@ Complete = Callable[[str], "list[str]"]
 _FAR_SIDES, _FAR_STEPS = 10, 100_000
 
 _PICTURE = ".svg"
+# What the head of a picture has at most.
+_HEAD_MAX = 1_000
 
 
 class _Terminal(Protocol):
@@ -426,6 +428,9 @@ class Console:
         if program is None:
             print("This needs the program sfmap, and it is not on the PATH.")
             return
+        if _is_other(target) and not self._yes(f"{target} is there, and is no picture of a store. Replace it?"):
+            print("Nothing is drawn.")
+            return
         # It lets others see no more than the store does, or where it was not saved yet its journal.
         like = store if os.path.exists(store) else store + ".journal"
         with tempfile.TemporaryDirectory() as folder, files.whole_file(target, like) as beside:
@@ -477,6 +482,15 @@ class Console:
         with contextlib.suppress(SystemExit):
             if exporting.main([self._path, *words, f"--program={self._program}"]) == 0:
                 print("It is written.")
+
+
+def _is_other(path: str) -> bool:
+    """Whether a file is there that sfmap has not written."""
+    if not os.path.isfile(path):
+        return False
+    with open(path, "rb", opener=files.opened) as file:
+        head, _, behind = file.read(_HEAD_MAX).partition(b">\n")
+    return not (head.startswith(b"<svg xmlns='http://www.w3.org/2000/svg' width=") and behind.startswith(b"<style>.back"))
 
 
 def _terminal(complete: Complete) -> _Terminal:

@@ -720,6 +720,21 @@ class Sessions(ConsoleCase):
         self.assertEqual((self.path.read_bytes(), notes.read_text()), (kept, "mine"))
         terminal.line("layers", "w point")
 
+    def test_a_drawing_of_somebodys_own_gives_way_where_that_is_said(self):
+        sfmap = self.folder / "sfmap"
+        sfmap.write_text("#!/bin/sh\nprintf \"<svg xmlns='http://www.w3.org/2000/svg' width='8' height='8'>\\n<style>.background{}\"\n")
+        sfmap.chmod(0o700)
+        self.environment["PATH"] = f"{self.folder}{os.pathsep}{self.environment['PATH']}"
+        mine = self.folder / "mine.svg"
+        mine.write_text("<svg>mine</svg>")
+        terminal = self.console()
+        terminal.line(f"picture {mine}", "Replace it?")
+        terminal.line("n", "Nothing is drawn.")
+        self.assertEqual(mine.read_text(), "<svg>mine</svg>")
+        terminal.line(f"picture {mine}", "Replace it?")
+        terminal.line("y", "mine.svg is drawn.")
+        terminal.line(f"picture {mine}", "mine.svg is drawn.")
+
     def test_a_picture_lets_others_see_no_more_than_the_store(self):
         sfmap = self.folder / "sfmap"
         sfmap.write_text("#!/bin/sh\necho '<svg/>'\n")
