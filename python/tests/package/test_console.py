@@ -392,11 +392,13 @@ class InMapUnits(TestCase):
         said = self.said(
             "layer add p any",
             f"add p MULTIPOLYGON (({large}), ((500020 5600020, 500020.03 5600020, 500020 5600020.03, 500020 5600020)))",
-            "add p POLYGON ((500030 5600000, 500040 5600000, 500040 5600010, 500030 5600000), (500036 5600003, 500036.03 5600003, 500036 5600003.03, 500036 5600003))",
+            "add p POLYGON ((500030 5600000, 500040 5600000, 500040 5600010, 500030 5600000), "
+            "(500036 5600003, 500036.03 5600003, 500036 5600003.03, 500036 5600003))",
             "snap p within 0.05",
             "n",
         )
-        self.assertIn("p 1 would have 1 ring, and has 2\np 2 would have 1 ring, and has 2\n4 nodes would be moved, in 2 features.\n", said)
+        told = "p 1 would have 1 ring, and has 2\np 2 would have 1 ring, and has 2\n"
+        self.assertIn(f"{told}4 nodes would be moved, in 2 features.\n", said)
 
     def test_overlaps_are_shown_before_they_are_taken_away(self):
         said = self.said(
@@ -722,7 +724,8 @@ class Sessions(ConsoleCase):
 
     def test_a_drawing_of_somebodys_own_gives_way_where_that_is_said(self):
         sfmap = self.folder / "sfmap"
-        sfmap.write_text("#!/bin/sh\nprintf \"<svg xmlns='http://www.w3.org/2000/svg' width='8' height='8'>\\n<style>.background{}\"\n")
+        head = "<svg xmlns='http://www.w3.org/2000/svg' width='8' height='8'>"
+        sfmap.write_text(f'#!/bin/sh\nprintf "{head}\\n<style>.background"\n')
         sfmap.chmod(0o700)
         self.environment["PATH"] = f"{self.folder}{os.pathsep}{self.environment['PATH']}"
         mine = self.folder / "mine.svg"
