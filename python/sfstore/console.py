@@ -49,6 +49,8 @@ Complete = Callable[[str], "list[str]"]
 _FAR_SIDES, _FAR_STEPS = 10, 100_000
 
 _PICTURE = ".svg"
+# What the head of a picture has at most.
+_HEAD_MAX = 1_000
 
 
 class _Terminal(Protocol):
@@ -426,6 +428,9 @@ class Console:
         if program is None:
             print("This needs the program sfmap, and it is not on the PATH.")
             return
+        if _is_other(target) and not self._yes(f"{target} is there, and is no picture of a store. Replace it?"):
+            print("Nothing is drawn.")
+            return
         # It lets others see no more than the store does, or where it was not saved yet its journal.
         like = store if os.path.exists(store) else store + ".journal"
         with tempfile.TemporaryDirectory() as folder, files.whole_file(target, like) as beside:
@@ -453,10 +458,13 @@ class Console:
                 return
             if not asked.add and not self._is_saved("Nothing is brought in: what comes takes the place of the saved store, and is no step to undo."):
                 return
+            # Nobody else writes it before the store is closed, and all is saved: so the close leaves a file that is there.
+            seen = files.digest(self._path) if os.path.isfile(self._path) else ""
             # What is added stands in the journal, on top of the edits there.
             self._store.close(save=not asked.add)
             try:
-                importing.main([*words, self._path, *([] if asked.add else ["--overwrite"])])
+                # The store that has no layers gives way, as it is now. Reports do only where that was said.
+                importing.main([*words, self._path], "" if asked.add else seen or files.digest(self._path))
             finally:
                 self._store = self._opened()
 
@@ -476,6 +484,15 @@ class Console:
         with contextlib.suppress(SystemExit):
             if exporting.main([self._path, *words, f"--program={self._program}"]) == 0:
                 print("It is written.")
+
+
+def _is_other(path: str) -> bool:
+    """Whether a file is there that sfmap has not written."""
+    if not os.path.isfile(path):
+        return False
+    with open(path, "rb", opener=files.opened) as file:
+        head, _, behind = file.read(_HEAD_MAX).partition(b">\n")
+    return not (head.startswith(b"<svg xmlns='http://www.w3.org/2000/svg' width=") and behind.startswith(b"<style>.back"))
 
 
 def _terminal(complete: Complete) -> _Terminal:

@@ -3,7 +3,7 @@
 from __future__ import annotations
 
 import re
-from collections.abc import Callable, Sequence
+from collections.abc import Callable, Iterator, Sequence
 from decimal import Decimal
 from fractions import Fraction
 
@@ -93,7 +93,8 @@ class Drawing:
             self._show("Nothing is that near.")
             return
         heads = f"{_counted(len(plan.moves), 'node')} would be moved, in {_counted(len(plan.changed), 'feature')}."
-        self._show("\n".join([*map(self._move_row, plan.moves), heads]))
+        gone = [row for which, after in plan.changed.items() for row in _fewer_rings(which, plan.seen[which], after)]
+        self._show("\n".join([*map(self._move_row, plan.moves), *gone, heads]))
         self._do(plan.carry_out, len(plan.changed))
 
     def _clean(self, words: list[str]) -> None:
@@ -208,6 +209,13 @@ def _feature(word: str) -> int:
 
 def _names(features: Sequence[Which]) -> str:
     return ", ".join(f"{layer} {feature}" for layer, feature in features)
+
+
+def _fewer_rings(which: Which, before: Shape, after: Shape) -> Iterator[str]:
+    """What is said of a feature of which a part or a hole would be gone."""
+    old, new = (sum(map(len, shape.members)) for shape in (before, after))
+    if new < old:
+        yield f"{_names([which])} would have {_counted(new, 'ring')}, and has {old}"
 
 
 def _counted(count: int, what: str) -> str:

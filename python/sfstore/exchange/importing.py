@@ -84,6 +84,8 @@ class Wishes:
     """Whether the side-car is that of the store, though a program has saved the store without it."""
     takes_constraints: bool = False
     """Whether what the source demands of columns becomes rules of a new store."""
+    given_way: str = ""
+    """The digest of the one store that gives way though nothing else does; empty where none does."""
 
     def taking(self, keeps_identifiers: bool = True) -> Taking:
         """How features are taken."""
@@ -155,7 +157,7 @@ def bring_in(wishes: Wishes) -> Result:
 
     `ogr.ExchangeError`, `journal.JournalError` or `OSError` where nothing was written.
     """
-    check_target(wishes.target, wishes.overwrite)
+    check_target(wishes.target, wishes.overwrite, wishes.given_way)
     rules = [] if wishes.rules is None else rulesfile.read(wishes.rules)
     report = Report()
     with _heard(wishes, report):
@@ -171,7 +173,8 @@ def bring_in(wishes: Wishes) -> Result:
     found = Sidecar(grid.words, crs, [reading.origin() for reading in readings])
     all_rules = left.rules + rules
     all_rules += _constraints(wishes, readings, all_rules, report)
-    rulings = publish(wishes.target, contents, found, wishes.program, wishes.overwrite, all_rules, sources)
+    target, overwrite, given_way = wishes.target, wishes.overwrite, wishes.given_way
+    rulings = publish(target, contents, found, wishes.program, overwrite, all_rules, sources, given_way)
     brought = {
         content.name: Brought(reading.source_name, partial(_features, content, reading))
         for content, reading in zip(contents, readings)
@@ -521,8 +524,11 @@ def _check_files(wanted: argparse.ArgumentParser, asked: argparse.Namespace) -> 
         wanted.error("source, store, rules, report and faulty features are different files")
 
 
-def main(words: list[str] | None = None) -> int:
-    """Carries out the command, and gives its status."""
+def main(words: list[str] | None = None, given_way: str = "") -> int:
+    """Carries out the command, and gives its status.
+
+    The store whose digest is ``given_way`` is replaced as if ``--overwrite`` were said, and no report is.
+    """
     wanted = parser()
     asked = wanted.parse_intermixed_args(words)
     grid = _grid_of(wanted, asked.grid)
@@ -539,7 +545,7 @@ def main(words: list[str] | None = None) -> int:
     if asked.clean is not None and asked.add:
         wanted.error("--clean goes with a new store, and not with --add: the console has `clean LAYER within D`")
     _check_files(wanted, asked)
-    return outcome.ended("sfstore-import", lambda: _bring_in(asked, grid), asked.file)
+    return outcome.ended("sfstore-import", lambda: _bring_in(asked, grid, given_way), asked.file)
 
 
 def _suggest(asked: argparse.Namespace) -> int:
@@ -559,7 +565,7 @@ def _mode(store: str) -> int:
         return 0o600
 
 
-def _bring_in(asked: argparse.Namespace, grid: Grid | None) -> int:
+def _bring_in(asked: argparse.Namespace, grid: Grid | None, given_way: str) -> int:
     for path in (asked.report, asked.faulty):
         if path and os.path.lexists(path) and not asked.overwrite:
             raise ogr.ExchangeError(f"{path} is there already: --overwrite replaces it")
@@ -582,6 +588,7 @@ def _bring_in(asked: argparse.Namespace, grid: Grid | None) -> int:
         asked.clean,
         asked.same_map,
         asked.constraints,
+        given_way,
     )
     report, crs, said, fault = add_in(wishes) if asked.add else bring_in(wishes)
     try:

@@ -37,9 +37,11 @@ from sfstore.storefile import write as write_store
 __all__ = ["check_target", "publish"]
 
 
-def check_target(target: str, overwrite: bool) -> None:
-    """`ExchangeError` where a store's file may not be written."""
-    if os.path.lexists(target) and not overwrite:
+def check_target(target: str, overwrite: bool, given_way: str = "") -> None:
+    """`ExchangeError` where a store's file may not be written. The one of the digest ``given_way`` gives way in any case."""
+    if given_way and os.path.isfile(target) and files.digest(target) != given_way:
+        raise ExchangeError(f"{target} was written by another program meanwhile: open it again, and look")
+    if os.path.lexists(target) and not (overwrite or given_way):
         raise ExchangeError(f"{target} is there already: --overwrite replaces it")
     if os.path.exists(target) and not os.path.isfile(target):
         raise ExchangeError(f"{target} is no file")
@@ -61,6 +63,7 @@ def publish(
     overwrite: bool,
     rules: Sequence[AnyRule] = (),
     sources: Sequence[Source] = (),
+    given_way: str = "",
 ) -> list[Ruling]:
     """Has the program make a store's file, with the side-car beside it, and gives what became of rules.
 
@@ -69,7 +72,7 @@ def publish(
     """
     path = os.path.realpath(target)
     with journal.locked(path), room_beside(path) as room:
-        check_target(target, overwrite)
+        check_target(target, overwrite, given_way)
         sidecar.settle(path)
         made, rulings = _made(room, layers, rules, program, target)
         beside = os.path.join(room, "side-car")

@@ -18,7 +18,7 @@ from sfstore.commands import Command, help_text, near_words
 from sfstore.faults import fault_at, fault_of
 from sfstore.geometry import Shape, read_wkb, write_wkt
 from sfstore.groups import text_of
-from sfstore.language import GRID_MAX, GRID_MIN, QUESTIONS, parted
+from sfstore.language import GRID_MAX, GRID_MIN, QUESTIONS, parted, words_of_line
 from sfstore.lines import geometry_refused
 from sfstore.mapunits import MapUnits, NoPlace
 from sfstore.refusals import words_of
@@ -306,6 +306,9 @@ class Calls:
             raise BadCall("a batch counts in steps: only line and feature take units of the map")
         batch = batch_of(editor, _page(body), body.get("lines"), body.get("seen"))
         lines = batch.lines
+        if body.get("corners") and any(words_of_line(line)[0] == "vertex" for line in lines):
+            # What goes in counts them anew, and what it takes the place of would be lost.
+            raise BadCall("a batch with corners has no lines that edit single vertices: replace the feature in their place")
         try:
             if body.get("corners"):
                 return self._fitting(batch, _corners(body["corners"]), _number(body, "shown", 0, 2**53))

@@ -14,7 +14,9 @@ from sfstore.tools.drafting import Drafting
 
 __all__ = ["PAGE_COMMANDS", "PAGE_TOOLS", "Drawn", "Undone", "Undrawn", "drawn_in"]
 
-PAGE_TOOLS = frozenset(TOOLS) - {"snap", "clean"}
+_OF_LAYERS = {"snap", "clean"}
+
+PAGE_TOOLS = frozenset(TOOLS) - _OF_LAYERS
 """The tools that make one group, and ask nothing."""
 
 PAGE_COMMANDS = [command for command in OWN if command.word in PAGE_TOOLS]
@@ -50,6 +52,9 @@ class Undrawn(Exception):
 def drawn_in(store: Editor, version: int, given: str, units: MapUnits | None) -> Drawn:
     """What a tool makes of a store. `Undrawn` where it makes nothing, and `ValueError` where its words are wrong."""
     word, *words = given.split()
+    if word == "preview" and words and words[0] in _OF_LAYERS:
+        # No limit of time ends such a look at each feature, and the questions of others would wait for it.
+        raise ValueError(f"preview {words[0]} is for the console: it looks at whole layers")
     tried = Drafting(store)
     said: list[str] = []
     drawing = Drawing(tried, units, said.append, lambda _: False)

@@ -4,6 +4,7 @@ from __future__ import annotations
 
 import errno
 import fcntl
+import json
 import os
 import pty
 import re
@@ -22,6 +23,8 @@ from unittest import mock
 from support import FOLDER, PROGRAM, TestCase
 
 from sfstore import Store, commands, console, files, sidecar
+from sfstore.exchange import importing
+from sfstore.exchange.sources import open_source
 from sfstore.lines import geometry_of
 
 HAS_TOOLKIT = find_spec("prompt_toolkit") is not None
@@ -154,6 +157,36 @@ class Pasted(TestCase):
             shown, said = self.carry_out(lines, f"import {self.folder}/no.gpkg --grid 0 0 1", "n", "undo")
         self.assertEqual(shown, [("POINT (1 1)", {})])
         self.assertIn("Nothing is brought in", said)
+
+    def point(self) -> str:
+        """A source of one point that an import takes, and one that it reports."""
+        features = [{"type": "Feature", "properties": {}, "geometry": {"type": "Point", "coordinates": [x, 1]}} for x in (1, 1.5)]
+        source = self.folder / "w.geojson"
+        source.write_text(json.dumps({"type": "FeatureCollection", "name": "w", "features": features}))
+        return str(source)
+
+    @unittest.skipUnless(HAS_GDAL, "no GDAL")
+    def test_an_import_replaces_no_report_unasked(self):
+        notes, line = self.folder / "notes.txt", f"import {self.point()} --grid 0 0 1 --report {self.folder}/notes.txt"
+        notes.write_text("what I have written\n")
+        shown, said = self.carry_out(line)
+        self.assertEqual((shown, notes.read_text()), ([], "what I have written\n"))
+        self.assertIn("notes.txt is there already: --overwrite replaces it", said)
+        shown, _ = self.carry_out(f"{line} --overwrite")
+        self.assertEqual(shown, [("POINT (1 1)", {})])
+        self.assertIn("off the grid", notes.read_text())
+
+    @unittest.skipUnless(HAS_GDAL, "no GDAL")
+    def test_an_import_replaces_no_store_that_was_written_meanwhile(self):
+        def opened(*words: object) -> object:
+            with Store(self.folder / "town.sfs", journal=True, program=PROGRAM) as other:
+                other.run_all(["layer add w point", "add w POINT (7 7)"])
+            return open_source(*words)
+
+        with mock.patch.object(importing, "open_source", opened):
+            shown, said = self.carry_out(f"import {self.point()} --grid 0 0 1")
+        self.assertEqual(shown, [("POINT (7 7)", {})])
+        self.assertIn("was written by another program meanwhile", said)
 
     def test_a_group_that_was_pasted(self):
         begin = "layer add w point\ntogether 2\n\nadd w POINT (1 1)\r\nadd w POINT (2 2)\nundo\nredo"
@@ -353,6 +386,19 @@ class InMapUnits(TestCase):
         self.assertEqual(said.count(told + "1 node would be moved, in 1 feature.\n"), 3)
         self.assertIn("Nothing was done.\n", said)
         self.assertIn("ok: 1 feature, 1 step\nNothing is that near.\nThat line can't be read: snap takes layers, the word `within`, and a distance", said)
+
+    def test_a_part_or_a_hole_that_would_be_gone_is_shown_before(self):
+        large = "(500000 5600000, 500010 5600000, 500010 5600010, 500000 5600010, 500000 5600000)"
+        said = self.said(
+            "layer add p any",
+            f"add p MULTIPOLYGON (({large}), ((500020 5600020, 500020.03 5600020, 500020 5600020.03, 500020 5600020)))",
+            "add p POLYGON ((500030 5600000, 500040 5600000, 500040 5600010, 500030 5600000), "
+            "(500036 5600003, 500036.03 5600003, 500036 5600003.03, 500036 5600003))",
+            "snap p within 0.05",
+            "n",
+        )
+        told = "p 1 would have 1 ring, and has 2\np 2 would have 1 ring, and has 2\n"
+        self.assertIn(f"{told}4 nodes would be moved, in 2 features.\n", said)
 
     def test_overlaps_are_shown_before_they_are_taken_away(self):
         said = self.said(
@@ -675,6 +721,22 @@ class Sessions(ConsoleCase):
             terminal.line(f"picture {name}", "nothing is drawn")
         self.assertEqual((self.path.read_bytes(), notes.read_text()), (kept, "mine"))
         terminal.line("layers", "w point")
+
+    def test_a_drawing_of_somebodys_own_gives_way_where_that_is_said(self):
+        sfmap = self.folder / "sfmap"
+        head = "<svg xmlns='http://www.w3.org/2000/svg' width='8' height='8'>"
+        sfmap.write_text(f'#!/bin/sh\nprintf "{head}\\n<style>.background"\n')
+        sfmap.chmod(0o700)
+        self.environment["PATH"] = f"{self.folder}{os.pathsep}{self.environment['PATH']}"
+        mine = self.folder / "mine.svg"
+        mine.write_text("<svg>mine</svg>")
+        terminal = self.console()
+        terminal.line(f"picture {mine}", "Replace it?")
+        terminal.line("n", "Nothing is drawn.")
+        self.assertEqual(mine.read_text(), "<svg>mine</svg>")
+        terminal.line(f"picture {mine}", "Replace it?")
+        terminal.line("y", "mine.svg is drawn.")
+        terminal.line(f"picture {mine}", "mine.svg is drawn.")
 
     def test_a_picture_lets_others_see_no_more_than_the_store(self):
         sfmap = self.folder / "sfmap"

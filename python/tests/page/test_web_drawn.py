@@ -2,17 +2,75 @@
 
 from __future__ import annotations
 
+import json
+import shutil
+import subprocess
 import threading
+import unittest
+from pathlib import Path
 
 from support import PROGRAM, TestCase
 from web_support import WebCase
 
+import sfstore.web
 from sfstore import Store
 from sfstore.web.batches import Batch
 from sfstore.web.keeper import Keeper, Overtaken
 
 LEFT, RIGHT = "POLYGON ((0 0, 10 0, 10 10, 0 10, 0 0))", "POLYGON ((10 0, 20 0, 20 10, 10 10, 10 0))"
 MOVED = "border p 1 2 LINESTRING (10 0, 12 5, 10 10)"
+
+# What is begun with a tool while one version of the store is shown, and ended while another one is: the word of each line,
+# and what it says was seen.
+BEGUN = """
+globalThis.document = { querySelectorAll: () => [], getElementById: () => ({}) };
+const { Drawing } = await import("./drawing.js");
+const { Hand } = await import("./hand.js");
+const sent = [];
+const app = {
+  version: 1, selection: { place: { layer: "p", id: 1 } }, tell() {}, overlay: { show() {} },
+  place: { units: { point: (point) => point.join(" ") } }, view: { svg: { dataset: {} }, scale: 1, toPlane: (x, y) => [x, y] },
+  map: { snap: (x, y) => [x, y], pick: () => ({ layer: "p", id: 2 }) },
+  run: (line, { seen = app.version } = {}) => sent.push([line.split(" ")[0], seen]),
+};
+app.drawing = new Drawing(app);
+app.hand = new Hand(app);
+const click = (...place) => app.hand.click({}, place);
+for (const [tool, clicks] of [["split", 2], ["hole", 3], ["node", 1], ["border", 3]]) {
+  app.version = 10;
+  app.hand.setTool(tool);
+  for (let at = 0; at < clicks; at += 1) {
+    click(at, at * at);
+    app.version += 1;
+  }
+  if (tool === "node") click(7, 7);
+  else app.hand.finish();
+}
+// What was given up is begun anew.
+app.hand.setTool("split");
+click(0, 0);
+app.hand.giveUp();
+app.version = 20;
+click(0, 0);
+click(1, 0);
+app.hand.finish();
+app.version = 30;
+app.hand.setTool("merge");
+click(0, 0);
+console.log(JSON.stringify(sent));
+"""
+
+
+@unittest.skipUnless(shutil.which("node"), "no node")
+class Begun(TestCase):
+    def test_what_is_changed_while_something_is_drawn_was_not_seen(self):
+        for script in (Path(sfstore.web.__file__).parent / "static").glob("*.js"):
+            shutil.copy(script, self.folder)
+        (self.folder / "package.json").write_text('{"type": "module"}')
+        (self.folder / "begun.js").write_text(BEGUN)
+        ended = subprocess.run(["node", self.folder / "begun.js"], stdout=subprocess.PIPE, check=True)
+        begun = [["split", 10], ["hole", 10], ["node", 10], ["border", 10], ["split", 20], ["merge", 30]]
+        self.assertEqual(json.loads(ended.stdout), begun)
 
 
 class Drawn(WebCase):
@@ -58,7 +116,8 @@ class Drawn(WebCase):
         self.assertIn("leads to no border at (12 5)", told["words"])
         self.assertEqual(self.ann.line("merge p 1 9")["refused"]["name"], "NoFeature")
         self.assertEqual(self.ann.line("split p 1 LINESTRING (4 4, 4 4)")["refused"]["name"], "ShortLine")
-        for line in ("split p", "node 1 2", "merge p 1 x", "preview snap", "preview save"):
+        looks = "preview snap", "preview snap p within 3", "preview  clean p within 3"
+        for line in ("split p", "node 1 2", "merge p 1 x", *looks, "preview save"):
             status, answer = self.ann.posted(line, 2**53 - 1)
             self.assertEqual(status, 400, line)
 
@@ -147,6 +206,15 @@ class Fitting(WebCase):
         self.assertEqual((answer["refused"]["name"], answer["refused"]["line"]), ("ShortRing", 1))
         status, answer = self.batch(self.ann, [self.LINES[0], "add p POLYGON ((2 10, 29 1, -20 30, 2 10))"])
         self.assertEqual(answer["refused"]["name"], "RuleBroken")
+
+    def test_no_edit_of_a_vertex_is_lost(self):
+        version = self.ann.version()
+        body = {"page": "page", "corners": [list(self.CORNER)], "shown": version}
+        for line in ("vertex move p 2 0 0 1 40 0", " vertex\tremove p 2 0 0 1", "vertex insert p 2 0 0 1 15 -3"):
+            lines, seen = [line, *self.LINES], [version, version, None]
+            status, answer = self.serving.posted("/batch", self.ann.key, **body, lines=lines, seen=seen)
+            self.assertEqual((status, answer["error"][:43]), (400, "a batch with corners has no lines that edit"), line)
+        self.assertEqual(self.ann.line("show p")["rows"], [f"1 {self.LOWER}", f"2 {self.UPPER}"])
 
     def test_corners_that_are_none(self):
         for corner in (["7/3", "10", 2], ["x", "10", 2, 10], ["7/0", "10", 2, 10], [2.5, "10", 2, 10], ["7/3", "10", 2.5, 10], ["7/3", "10", 2**40, 10], 7):

@@ -33,6 +33,12 @@ export class Drawing {
     // The neighbour of a border, and the corner that is to be moved.
     this.other = null;
     this.from = null;
+    this.since = null;
+  }
+
+  /** Notes the version of the store that is shown when something is begun: what changes behind it was not seen. */
+  note() {
+    this.since ??= this.app.version;
   }
 
   /** Takes a click that is for no point of a line or ring, and says whether it was one. */
@@ -58,8 +64,9 @@ export class Drawing {
     if (this.from) this.app.overlay.show("sketch", { code: 2, members: [[[...this.from, ...meant]]] });
   }
 
-  /** Carries out what was drawn. */
-  finish(tool, points) {
+  /** Carries out what was drawn, which was begun when a version of the store was shown. */
+  finish(tool, points, since) {
+    this.since = since;
     const { place: chosen } = this.app.selection;
     if (!chosen) return this.begin(tool);
     const { units } = this.app.place;
@@ -73,6 +80,7 @@ export class Drawing {
 
   #node(meant) {
     if (!this.from) {
+      this.note();
       this.from = meant;
       this.hover(meant);
       return;
@@ -93,6 +101,7 @@ export class Drawing {
       this.app.tell(`That is no other area of ${chosen.layer}. ${HINTS.border}`);
       return;
     }
+    this.note();
     this.other = picked;
     this.app.tell(`Draw the border between ${nameOf(chosen)} and ${picked.id}; Enter ends it.`);
   }
@@ -103,7 +112,9 @@ export class Drawing {
   }
 
   #run(line) {
-    return this.app.run(line);
+    const seen = this.since ?? this.app.version;
+    this.since = null;
+    return this.app.run(line, { seen });
   }
 }
 

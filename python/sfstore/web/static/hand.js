@@ -119,6 +119,7 @@ export class Hand {
       this.finish();
       return;
     }
+    this.app.drawing.note();
     if (!same(point, last)) this.points.push(point);
     if (this.tool === "point") this.finish();
     else this.#sketch();
@@ -135,14 +136,15 @@ export class Hand {
   /** Ends what is drawn: it is added to the layer, or asked about. */
   finish() {
     if (this.points.length < (LEAST_POINTS[this.tool] ?? Infinity)) return;
-    const points = this.points;
+    const { points, app } = this;
+    const { since } = app.drawing;
     this.giveUp();
     if (this.tool === "measure") return this.app.tell(this.app.place.measured(points));
     if (this.tool === "ask-polygon") {
       this.app.asking.askAbout(wktOf("polygon", points, this.app.place.units), ring(points));
       return;
     }
-    if (this.app.drawing.has(this.tool)) return this.app.drawing.finish(this.tool, points);
+    if (this.app.drawing.has(this.tool)) return app.drawing.finish(this.tool, points, since);
     const layer = this.app.map.layer(byId("target").value);
     if (!layer) return this.#missLayer(wktOf(this.tool, points, this.app.place.units));
     this.app.draw(layer.name, wktOf(this.tool, points, this.app.place.units, layer.kind.startsWith("multi")));
@@ -164,6 +166,7 @@ export class Hand {
   giveUp() {
     this.points = [];
     this.app.drawing.from = null;
+    this.app.drawing.since = null;
     this.app.overlay.show("sketch", null);
   }
 }
