@@ -71,6 +71,8 @@ _PAGE_LETTERS_MAX = 64
 
 # How often a tool is tried that others' edits have overtaken.
 _DRAWINGS_MAX = 5
+# How many features are named that a tool has changed.
+_CHANGED_SHOWN = 20
 
 _OVERTAKEN = "Others edit all the time just now: try it again. Nothing was done."
 
@@ -284,7 +286,8 @@ class Calls:
                 lines = drawn.lines
                 batch = batch_of(editor, _page(body), lines, [seen if feature_of(line) else None for line in lines])
                 done = self._changing(editor, lambda: self._keeper.carry_out_all(batch, drawn.version))
-                return {"answer": " ".join(["ok", *(answer[3:] for answer in done.answers if answer != "ok")])}
+                answer = " ".join(["ok", *(answer[3:] for answer in done.answers if answer != "ok")])
+                return {"answer": answer, "changed": _changed(lines)}
             except Overtaken:
                 continue
             except Undrawn as fault:
@@ -519,6 +522,13 @@ class Calls:
 def _shown(value: Value) -> str:
     """A value as a field of the page has it: texts without quotes, others as lines spell them."""
     return value if isinstance(value, str) else spelled(value)
+
+
+def _changed(lines: Sequence[str]) -> str:
+    """Which features lines change or delete, as a text: some of them, where they are many."""
+    found = list(dict.fromkeys(f"{target.layer} {target.feature}" for line in lines for target in features_of(line)))
+    more = f", and {len(found) - _CHANGED_SHOWN:,} more" if len(found) > _CHANGED_SHOWN else ""
+    return ", ".join(found[:_CHANGED_SHOWN]) + more
 
 
 def _broken(broken: Broken) -> Body:

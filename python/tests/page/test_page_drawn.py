@@ -39,7 +39,9 @@ class Drawn(PageCase):
         """Waits until a line was carried out that begins so."""
         page = self.page_of_ann
         page.until(lambda: page.last().startswith(line))
-        self.assertEqual(page.log()[-1][1], answer)
+        first, *told = page.log()[-1][1].split("\n")
+        self.assertEqual(first, answer)
+        self.assertRegex("\n".join(told), "^changed: parcels [0-9]+")
 
     def test_a_border_by_mouse(self):
         page = self.page_of_ann
@@ -91,7 +93,7 @@ class Drawn(PageCase):
         page.click((540, 300))
         page.press(page.keys.ENTER)
         page.until(lambda: page.last().startswith("split parcels 3 LINESTRING (540 0, 540 300)"))
-        self.assertRegex(page.log()[-1][1], "^ok [0-9]+$")
+        self.assertRegex(page.log()[-1][1], "^ok [0-9]+\nchanged: parcels [0-9]+")
 
     def test_what_is_not_done_is_shown_with_its_place(self):
         page = self.page_of_ann
@@ -119,7 +121,7 @@ class Drawn(PageCase):
             page.press(page.keys.ARROW_DOWN)
         page.press(page.keys.SPACE, page.keys.ENTER)
         page.until(lambda: page.last().startswith("split parcels 3 LINESTRING (4"))
-        self.assertRegex(page.log()[-1][1], "^ok [0-9]+$")
+        self.assertRegex(page.log()[-1][1], "^ok [0-9]+\nchanged: parcels [0-9]+")
         page.type("undo", "ok")
         self.assertEqual(self.shown(3), before)
         page.press(page.keys.ESCAPE)

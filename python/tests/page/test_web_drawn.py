@@ -85,20 +85,20 @@ class Drawn(WebCase):
 
     def test_each_tool_is_one_step(self):
         before = self.shown()
-        for line, answer, count in (
-            ("split p 1 LINESTRING (4 -1, 5 11)", "ok 3", 3),
-            ("merge p 1 2", "ok", 1),
-            ("node 10 10 to 11 12", "ok", 2),
-            (MOVED, "ok", 2),
-            ("hole p 1 POLYGON ((2 2, 4 2, 4 4, 2 2))", "ok", 2),
+        for line, answer, changed, count in (
+            ("split p 1 LINESTRING (4 -1, 5 11)", "ok 3", "p 1", 3),
+            ("merge p 1 2", "ok", "p 1, p 2", 1),
+            ("node 10 10 to 11 12", "ok", "p 1, p 2", 2),
+            (MOVED, "ok", "p 1, p 2", 2),
+            ("hole p 1 POLYGON ((2 2, 4 2, 4 4, 2 2))", "ok", "p 1", 2),
         ):
-            self.assertEqual(self.ann.line(line), {"answer": answer}, line)
+            self.assertEqual(self.ann.line(line), {"answer": answer, "changed": changed}, line)
             self.assertEqual(len(self.shown()), count, line)
             self.assertNotEqual(self.shown(), before)
             self.ann.line("undo")
             self.assertEqual(self.shown(), before, line)
         self.ann.line("hole p 1 POLYGON ((2 2, 8 2, 8 8, 2 2))")
-        self.assertEqual(self.ann.line("fill p 1 5 4"), {"answer": "ok"})
+        self.assertEqual(self.ann.line("fill p 1 5 4"), {"answer": "ok", "changed": "p 1"})
 
     def test_values_go_along(self):
         self.ann.line("split p 1 LINESTRING (4 -1, 5 11)")
@@ -146,7 +146,19 @@ class Drawn(WebCase):
 
     def test_coordinates_in_units_of_the_map_without_a_grid_are_steps(self):
         status, answer = self.serving.posted("/line", self.ann.key, page="page", line=MOVED, seen=self.ann.feature("p", 1)["version"], units="map")
-        self.assertEqual((status, answer), (200, {"answer": "ok"}))
+        self.assertEqual((status, answer), (200, {"answer": "ok", "changed": "p 1, p 2"}))
+
+    def test_features_of_other_layers_are_named(self):
+        """A layer may be turned off on the page of whoever moves the corner."""
+        for line in "layer add hid linestring", "add hid LINESTRING (10 10, 30 30)":
+            self.ann.line(line)
+        self.assertEqual(self.ann.line("node 10 10 to 11 11"), {"answer": "ok", "changed": "p 1, p 2, hid 1"})
+
+    def test_of_many_some_are_named(self):
+        self.ann.line("layer add l linestring")
+        self.ann.line("\r".join(["together 40", *(f"add l LINESTRING (100 100, {100 + at} 200)" for at in range(40))]))
+        changed = ", ".join(f"l {at}" for at in range(1, 21))
+        self.assertEqual(self.ann.line("node 100 100 to 101 99"), {"answer": "ok", "changed": f"{changed}, and 20 more"})
 
     def test_help_has_them(self):
         self.assertIn("border LAYER ID ID WKT", self.ann.line("help border")["text"])

@@ -76,7 +76,7 @@ export class Log {
     if (answer.refused) this.add(line, `refused ${answer.refused.number} ${answer.refused.name}`, "refused");
     else if (answer.undone) this.add(line, `not done: ${answer.undone.words}`, "refused");
     else if (answer.rows) this.add(line, rowsText(answer));
-    else this.add(line, answer.text ?? answer.answer);
+    else this.add(line, [answer.text ?? answer.answer, ...(answer.changed ? [`changed: ${answer.changed}`] : [])].join("\n"));
   }
 }
 
