@@ -105,12 +105,24 @@ fn seen_of(file: &File) -> Result<Seen, Ending> {
     }
 }
 
+/// Whether a pipe, a socket or a device is there. A pipe is not even opened before somebody writes to it, and meanwhile the
+/// lock would keep others out.
+fn is_no_file<R: Files>(files: &R, path: &str) -> bool {
+    match files.metadata(path) {
+        Ok(metadata) => !metadata.is_file() && !metadata.is_dir(),
+        Err(_) => false,
+    }
+}
+
 /// Loads the store of a file, with what is known of the file; where it isn't there, a new store.
 fn load_store<R: Files<File = File>>(
     files: &R,
     alloc: Global,
     places: &Places,
 ) -> Result<(Ruled, Known), Ending> {
+    if is_no_file(files, places.at(Name::Store)) {
+        return Err(Ending::LoadOpen);
+    }
     match fs::open(files, places.at(Name::Store)) {
         Ok(mut file) => load_file(alloc, &mut file),
         Err(fault) if fault.kind() == ErrorKind::NotFound => new_store(alloc),

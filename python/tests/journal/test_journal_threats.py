@@ -203,6 +203,14 @@ class JournalThreats(TestCase):
                 os.unlink(place)
                 self.assertRegex(said.stderr, f"it is no file: '{place}'|{place} can't be read: it is no file")
 
+    def test_the_program_alone_waits_for_no_pipe(self):
+        os.unlink(self.path)
+        os.mkfifo(self.path)
+        ended = subprocess.run([PROGRAM, "--store", self.path], input=b"layers\n", stdout=subprocess.PIPE, timeout=60)
+        self.assertEqual((ended.returncode, ended.stdout), (3, b"fault load Open\n"))
+        os.unlink(self.path)
+        self.assertEqual(subprocess.run([PROGRAM, "--store", self.path], input=b"layers\n", stdout=subprocess.PIPE, timeout=60).stdout, b"rows 0\n")
+
     def test_a_side_car_that_is_none_stops_no_save(self):
         for content in ("[" * 100_000, '{"format": "sfstore side-car 1", "layers": ["x"]}', "5", ""):
             (self.folder / "town.sfs.json").write_text(content)
