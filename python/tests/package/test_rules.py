@@ -6,9 +6,9 @@ import random
 import unittest
 from pathlib import Path
 
-from support import PROGRAM, TestCase
+from support import PROGRAM
 
-from rules_model import Model, Program  # isort: skip
+from rules_cases import RulesCase  # isort: skip
 from sfstore import Refused, Rule, Store
 
 SESSIONS = 2_000
@@ -75,48 +75,20 @@ class Lines:
             yield self._random.choice(["", "", "", "", "@2 "]) + what()
 
 
-class AgainstAModel(TestCase):
+# How answers begin that come often enough to be tested at all.
+OFTEN = ("refused 37 RuleBroken", "refused 36 NotYours", "refused 40 RuleExists", "refused 39 NoRule", "refused 41 LayerRuled")
+
+
+class AgainstAModel(RulesCase):
     SECONDS = 600
 
     def test_sessions_by_chance(self):
-        said: dict[str, int] = {}
-        for seed in range(SESSIONS):
-            programs = Program(PROGRAM), Program(PROGRAM)
-            store, model = programs[0], Model(programs[1])
-            done = []
-            for line in Lines(seed):
-                done.append(line)
-                answer = store.ask(line)
-                self.assertEqual(answer, model.ask(line), (seed, done))
-                word = " ".join(answer[0].split(" ")[:3])
-                said[word] = said.get(word, 0) + 1
-            for layer in ("p", "q", "r"):
-                self.assertEqual(store.ask(f"show {layer}"), programs[1].ask(f"show {layer}"), (seed, done))
-            for program in programs:
-                program.close()
-        # Each comes often enough to be tested at all.
-        for wanted in ("refused 37 RuleBroken", "refused 36 NotYours", "refused 40 RuleExists", "refused 39 NoRule", "refused 41 LayerRuled"):
-            self.assertGreater(said.get(wanted, 0), SESSIONS // 40, (wanted, said))
+        self.check_beside_a_model(SESSIONS, Lines, OFTEN)
 
 
-class Lived(TestCase):
+class Lived(RulesCase):
     def test_a_session(self):
-        """Lines behind `> `, and what answers them."""
-        sent, wanted = [], []
-        for line in Path(__file__).with_name("rules_session.txt").read_text(encoding="utf-8").splitlines():
-            if line.startswith(">"):
-                sent.append(line[2:])
-            elif line and not line.startswith("#"):
-                wanted.append(line)
-        self.assertGreater(len(sent), 60)
-        self.assertEqual(self.answers(sent), wanted)
-
-    def answers(self, lines):
-        import subprocess
-
-        ended = subprocess.run([PROGRAM], input="".join(f"{line}\n" for line in lines), capture_output=True, text=True, timeout=60)
-        self.assertEqual(ended.returncode, 0, ended.stderr)
-        return ended.stdout.splitlines()
+        self.check_lived(Path(__file__).with_name("rules_session.txt"), 60)
 
     def test_by_the_module(self):
         with Store(PROGRAM) as store:

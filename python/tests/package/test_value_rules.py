@@ -3,13 +3,12 @@
 from __future__ import annotations
 
 import random
-import subprocess
 import unittest
 from pathlib import Path
 
 from support import PROGRAM, TestCase
 
-from rules_model import Model, Program  # isort: skip
+from rules_cases import RulesCase  # isort: skip
 from sfstore import Refused, Store
 from sfstore.results import ValueRule
 
@@ -92,43 +91,20 @@ class Lines:
             yield self._random.choice(["", "", "", "", "@2 "]) + what()
 
 
-class AgainstAModel(TestCase):
+# How answers begin that come often enough to be tested at all.
+OFTEN = ("refused 37 RuleBroken", "refused 22 NoColumn", "refused 40 RuleExists", "refused 39 NoRule", "refused 41 LayerRuled")
+
+
+class AgainstAModel(RulesCase):
     SECONDS = 600
 
     def test_sessions_by_chance(self):
-        said: dict[str, int] = {}
-        for seed in range(SESSIONS):
-            programs = Program(PROGRAM), Program(PROGRAM)
-            store, model = programs[0], Model(programs[1])
-            done = []
-            for line in Lines(seed):
-                done.append(line)
-                answer = store.ask(line)
-                self.assertEqual(answer, model.ask(line), (seed, done))
-                word = " ".join(answer[0].split(" ")[:3])
-                said[word] = said.get(word, 0) + 1
-            for layer in ("p", "q", "r"):
-                self.assertEqual(store.ask(f"show {layer}"), programs[1].ask(f"show {layer}"), (seed, done))
-            for program in programs:
-                program.close()
-        # Each comes often enough to be tested at all.
-        for wanted in ("refused 37 RuleBroken", "refused 22 NoColumn", "refused 40 RuleExists", "refused 39 NoRule", "refused 41 LayerRuled"):
-            self.assertGreater(said.get(wanted, 0), SESSIONS // 40, (wanted, said))
+        self.check_beside_a_model(SESSIONS, Lines, OFTEN)
 
 
-class Lived(TestCase):
+class Lived(RulesCase):
     def test_a_session(self):
-        """Lines behind `> `, and what answers them."""
-        sent, wanted = [], []
-        for line in Path(__file__).with_name("value_rules_session.txt").read_text(encoding="utf-8").splitlines():
-            if line.startswith(">"):
-                sent.append(line[2:])
-            elif line and not line.startswith("#"):
-                wanted.append(line)
-        self.assertGreater(len(sent), 40)
-        ended = subprocess.run([PROGRAM], input="".join(f"{line}\n" for line in sent), capture_output=True, text=True, timeout=60)
-        self.assertEqual(ended.returncode, 0, ended.stderr)
-        self.assertEqual(ended.stdout.splitlines(), wanted)
+        self.check_lived(Path(__file__).with_name("value_rules_session.txt"), 40)
 
     def added(self, store, layer, wkt, **values):
         """Adds a feature with its values, as one step."""
