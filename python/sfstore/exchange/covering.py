@@ -64,8 +64,10 @@ def clean_layer(content: FileLayer, reading: Reading, grid: Grid, width: Fractio
     features = [
         feature._replace(geometry=geometries.get((content.name, feature.id), feature.geometry)) for feature in content.features
     ]
-    are_several = any(each.after.code == _MULTI for each in done.changed.values())
-    kind = _ANY if are_several and content.kind == _POLYGONS else content.kind
+    kind = content.kind
+    if kind == _POLYGONS and any(each.after.code == _MULTI for each in done.changed.values()):
+        kind = _ANY
+        report.note(reading.source_name, "the layer is one of any kind: a polygon became several")
     return replace(content, features=features, kind=kind)
 
 

@@ -27,9 +27,9 @@ RULE = "rule add alone never p T******** p\n"
 
 
 class Clean(ExchangeCase):
-    def cleaned(self, features, *words, status=0):
+    def cleaned(self, features, *words, status=0, kind=None):
         """What is said of an import of areas, the rows of its report, and the store's texts."""
-        Source(self.source).layer("p", {number: (text, {}) for number, text in features.items()}).close()
+        Source(self.source).layer("p", {number: (text, {}) for number, text in features.items()}, kind).close()
         report = self.folder / "report.txt"
         found, out, err = bring_in(self.source, self.store, *PLAIN, "--report", report, "--overwrite", *words)
         self.assertEqual(found, status, err)
@@ -56,6 +56,14 @@ class Clean(ExchangeCase):
         self.assertIn(["1", "overlap that is wider, and stays", "at (0 0), of 1, 2, area 25"], rows)
         self.assertIn(["1", "gap that is wider, and stays", "at (10 10), between 1, area 4900"], rows)
         self.assertEqual(shown, [ring, "POLYGON ((0 0, 5 0, 5 5, 0 5, 0 0))"])
+
+    def test_a_polygon_that_becomes_several_is_told(self):
+        parted = {at + 1: f"POLYGON (({left} 0, {right} 0, {right} 99, {left} 99, {left} 0))" for at, (left, right) in enumerate([(0, 100), (49, 51), (100, 200)])}
+        out, _, shown = self.cleaned(parted, "--clean", "3", kind=ogr.wkbPolygon)
+        self.assertIn("the layer is one of any kind: a polygon became several\n", out)
+        self.assertEqual(sum(text.startswith("MULTIPOLYGON") for text in shown), 1)
+        with Store(PROGRAM, load=self.store) as store:
+            self.assertEqual(store.layers()[0].kind, "any")
 
     def test_wrong_widths(self):
         for word, said in (("0", "0 is not above 0"), ("x", "'x' is no decimal"), ("-1", "-1 is not above 0"), ("nan", "no decimal number that")):
