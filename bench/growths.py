@@ -106,6 +106,9 @@ layer move c 0
 column add a depth int
 column add a label text
 column add a price decimal
+column add a seen date
+column add a dry bool
+column add a measured datetime
 add a POINT (1 1)
 add a LINESTRING (0 0, 5 5)
 addhex a 010100000000000000000008400000000000001040
@@ -117,6 +120,9 @@ set a 2 depth -7
 set a 1 depth 13
 set a 2 label E'a\\nb''s\\x1b'
 set a 4 price -812.50
+set a 4 seen 2024-02-29
+set a 4 dry true
+set a 4 measured 2026-11-29T19:28:11.250Z
 replace a 1 MULTIPOINT (1 1, 2 2)
 vertex insert a 2 0 0 1 3 4
 vertex move a 2 0 0 0 -1 0
@@ -138,6 +144,9 @@ find a depth
 find a label 'it''s'
 find a label E'a\\nb''s\\x1b'
 find a price -812.5
+find a seen 2024-02-29
+find a dry true
+find a measured 2026-11-29T19:28:11.25Z
 check a POLYGON ((0 0, 9 0, 9 9, 0 9, 0 0), (1 1, 2 1, 2 2, 1 1))
 check a POLYGON ((0 0, 4 4, 4 0, 0 4, 0 0))
 hex a 2
