@@ -7,7 +7,7 @@
 In each round two layers get features of all kinds, a few or as many as have an index searched, and are joined by each
 predicate and by some patterns, each layer with the other and with itself, whole and beside one feature. What belongs
 in each answer is worked out here, pair by pair, from the letters that `relate` answers, by the standard's table of
-predicates. Every difference is printed; the status is 1 where there is one.
+predicates, and by a distance from the exact squares that `distance` answers. Every difference is printed; the status is 1 where there is one.
 
     rt run is needed once in crates/sfstore (it builds the program).
 """
@@ -20,6 +20,7 @@ import subprocess
 import sys
 from collections.abc import Iterator
 from dataclasses import dataclass
+from fractions import Fraction
 from pathlib import Path
 
 from agreement import PROGRAM, feature, holds, matches
@@ -27,6 +28,8 @@ from agreement import PROGRAM, feature, holds, matches
 ROUNDS = 2_000
 SEED = 20_261_127
 PREDICATES = ("equals", "disjoint", "intersects", "touches", "within", "contains", "crosses", "overlaps")
+# Distances below, at and above those of many a pair: 50 and 200 are squares of some.
+DISTANCES = ("0", "1", "5", "7.071", "7.072", "9.999", "10", "14.142", "14.143", "100000")
 # The sides of two fields of squares: each meets the eight round it, and of the other field nine.
 SQUARES = 316
 
@@ -64,6 +67,7 @@ def layer(chance: random.Random) -> Layer:
 def joins(chance: random.Random, layers: dict[str, Layer]) -> Iterator[Join]:
     """What is asked of two layers."""
     asks = [*PREDICATES, *("".join(chance.choice("****TF012") for _ in range(9)) for _ in range(3))]
+    asks += [f"near {distance}" for distance in chance.sample(DISTANCES, 3)]
     for ask in asks:
         first, second = chance.choice("ab"), chance.choice("ab")
         yield Join(first, ask, second, None)
@@ -86,8 +90,8 @@ def answers(program: Path, lines: list[str]) -> Iterator[list[str]]:
         yield rows_of(output)
 
 
-def matrices(program: Path, layers: dict[str, Layer]) -> dict[tuple[str, str, int, int], str]:
-    """The matrix of each feature of a layer with each of a layer, by the names and identifiers."""
+def matrices(program: Path, layers: dict[str, Layer]) -> dict[tuple[str, str, int, int], tuple[str, Fraction]]:
+    """The matrix and the square of the distance of each feature of a layer with each of a layer, by the names and identifiers."""
     added = [f"layer add {name} any" for name in layers]
     added += [f"add {name} {text}" for name, features in layers.items() for _, text in features]
     pairs = [
@@ -97,17 +101,28 @@ def matrices(program: Path, layers: dict[str, Layer]) -> dict[tuple[str, str, in
         for i in range(1, len(layers[first]) + 1)
         for j in range(1, len(layers[second]) + 1)
     ]
-    asked = [f"relate {first} {i} {layers[second][j - 1][1]}" for first, second, i, j in pairs]
+    asked = [
+        f"{question} {first} {i} {layers[second][j - 1][1]}"
+        for first, second, i, j in pairs
+        for question in ("relate", "distance")
+    ]
     found = [*answers(program, added + asked)][len(added) :]
-    return {pair: rows[0] for pair, rows in zip(pairs, found, strict=True)}
+    letters = [rows[0] for rows in found[::2]]
+    squares = [Fraction(rows[0].split()[1]) for rows in found[1::2]]
+    return dict(zip(pairs, zip(letters, squares, strict=True), strict=True))
 
 
-def is_asked(ask: str, own: int, given: int, matrix: str) -> bool:
-    """Whether a matrix is as a predicate or a pattern asks."""
+def is_asked(ask: str, own: int, given: int, known: tuple[str, Fraction]) -> bool:
+    """Whether a matrix and the square of a distance are as a predicate, a pattern or a distance asks."""
+    matrix, square = known
+    if ask.startswith("near "):
+        return square <= Fraction(ask.split()[1]) ** 2
     return holds(ask, own, given, matrix) if ask in PREDICATES else matches(matrix, ask)
 
 
-def expected(join: Join, layers: dict[str, Layer], known: dict[tuple[str, str, int, int], str]) -> list[str]:
+def expected(
+    join: Join, layers: dict[str, Layer], known: dict[tuple[str, str, int, int], tuple[str, Fraction]]
+) -> list[str]:
     """The rows of a join, by a plain double loop."""
     found: list[Pair] = []
     for i, (own, _) in enumerate(layers[join.first], 1):

@@ -1,5 +1,5 @@
 #!/usr/bin/env python3
-"""Splits and merges parcels at random, in a coverage without gaps, under rules.
+"""Splits and merges parcels and moves their corners at random, in a coverage without gaps, under rules.
 
     bench/parcels.py [--side N] [--steps N] [PROGRAM]     2,025 parcels and 10,000 steps without these: two minutes
 
@@ -26,6 +26,8 @@ from programs import path_of  # noqa: E402
 WIDE = 2_000
 # A feature is not merged further once its text has so many letters.
 LETTERS_MAX = 4_000
+# How many steps a corner is moved at most, along each axis.
+MOVED = 20
 
 
 class Trial:
@@ -51,18 +53,21 @@ class Trial:
     @property
     def steps(self) -> int:
         """How many steps there are to undo."""
-        return self.tried["split"] + self.tried["merged"]
+        return self.tried["split"] + self.tried["merged"] + self.tried["moved"]
 
     def step(self) -> None:
-        """Splits or merges a parcel, if that can be done."""
+        """Splits or merges a parcel, or moves a corner of it, if that can be done."""
         from sfstore import Refused
 
         parcel = self.chance.choice(self.parcels)
         try:
-            if self.chance.random() < 0.55:
+            what = self.chance.random()
+            if what < 0.4:
                 self.split(parcel)
-            else:
+            elif what < 0.75:
                 self.merge(parcel)
+            else:
+                self.move(parcel)
         except Refused as refused:
             self.tried["refused"] += 1
             print(f"parcels {parcel}: {refused}"[:200])
@@ -94,6 +99,19 @@ class Trial:
             self.parcels.remove(other)
             self.tried["merged"] += 1
 
+    def move(self, parcel: int) -> None:
+        """Moves a corner of a parcel a little, in all that have it; those of the outer border stay."""
+        from sfstore.geometry import read_wkt
+        from sfstore.tools import move_node
+
+        [feature] = self.store.get("parcels", parcel)
+        [shell, *_] = read_wkt(feature.wkt).members[0]
+        corner = self.chance.randrange(0, len(shell), 2)
+        at = shell[corner], shell[corner + 1]
+        if self.model.far_from(at, self.before.shell) > 1:
+            move_node(self.store, ["parcels"], at, (at[0] + self.chance.randint(-MOVED, MOVED), at[1] + self.chance.randint(-MOVED, MOVED)))
+            self.tried["moved"] += 1
+
     def ends_well(self) -> bool:
         """Whether no gap and no overlap came in, and all is undone step by step."""
         after = self.model.outline(feature.wkt for feature in self.store.show("parcels"))
@@ -107,7 +125,7 @@ class Trial:
 
 def main() -> int:
     """Tries so many steps. The status is 1 where something came of them that may not."""
-    parser = argparse.ArgumentParser(description="Random splits and merges of parcels, under rules.")
+    parser = argparse.ArgumentParser(description="Random splits, merges and moves of parcels, under rules.")
     parser.add_argument("program", nargs="?", default=str(path_of("sfstore")))
     parser.add_argument("--side", type=int, default=45, help="how many parcels stand in a row (45)")
     parser.add_argument("--steps", type=int, default=10_000, help="how many steps (10000)")

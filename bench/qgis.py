@@ -4,12 +4,13 @@
     bench/qgis.py PROGRAM [FEATURES]
 
 makes a store of so many parcels of six points with two values (100,000 if not given), opens it by the plugin's
-provider in PyQGIS without a screen, and measures opening, drawing, questions, edits, commits and undo. It needs the
-Python that has QGIS.
+provider in PyQGIS without a screen, and measures opening, drawing, questions, expressions, edits, commits and undo. It
+needs the Python that has QGIS.
 """
 
 from __future__ import annotations
 
+import itertools
 import json
 import os
 import random
@@ -29,6 +30,9 @@ from qgis.core import (  # noqa: E402
     Qgis,
     QgsApplication,
     QgsCoordinateTransformContext,
+    QgsExpression,
+    QgsExpressionContext,
+    QgsExpressionContextUtils,
     QgsFeature,
     QgsFeatureRequest,
     QgsGeometry,
@@ -45,6 +49,7 @@ APP.initQgis()
 
 from sfstore_qgis import provider  # noqa: E402
 from sfstore_qgis.editing import Editing, commit  # noqa: E402
+from sfstore_qgis.functions import Functions  # noqa: E402
 from sfstore_qgis.session import Session  # noqa: E402
 
 from sfstore import files, storefile  # noqa: E402
@@ -132,6 +137,7 @@ class Bench:
         print(f"memory of QGIS for the layer: {memory() - before} MB")
         self.beside()
         self.shown()
+        self.asked()
         self.edits()
         timed("saved", lambda: self.session.line("save"))
         print(f"memory of QGIS at its most: {memory()} MB; features {self.layer.featureCount()}")
@@ -162,6 +168,25 @@ class Bench:
     def at_point(self, layer) -> None:
         request = QgsFeatureRequest(self.window(0.1)).setFlags(QgsFeatureRequest.ExactIntersect)
         list(layer.getFeatures(request))
+
+    def asked(self) -> None:
+        """Expressions that the store answers, beside one of QGIS' own."""
+        functions = Functions({self.layer.id(): Editing(self.layer)})
+        functions.register()
+        timed("$area of all parcels", lambda: self.evaluated("$area", self.count))
+        timed("sfstore_area() of all parcels", lambda: self.evaluated("sfstore_area()", self.count))
+        timed("that again, as long as nothing is changed", lambda: self.evaluated("sfstore_area()", self.count))
+        timed("1,000 distances from a parcel", lambda: self.evaluated("sfstore_distance('parcels', 1, $geometry)", 1_000))
+        functions.unregister()
+
+    def evaluated(self, text: str, count: int) -> None:
+        """Has an expression evaluated of so many parcels."""
+        context = QgsExpressionContext(QgsExpressionContextUtils.globalProjectLayerScopes(self.layer))
+        expression = QgsExpression(text)
+        expression.prepare(context)
+        for feature in itertools.islice(self.layer.getFeatures(), count):
+            context.setFeature(feature)
+            assert expression.evaluate(context) is not None, expression.evalErrorString()
 
     def edits(self) -> None:
         editing = Editing(self.layer)

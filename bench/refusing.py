@@ -124,7 +124,7 @@ class Told:
 
 @dataclass(frozen=True)
 class Trial:
-    """A line for which memory is scarce: behind it some that leave the layer's index as it is, and one that names it."""
+    """A line for which memory is scarce: behind it some that leave the layer's index as it is, and one that builds it where it was lost."""
 
     before: tuple[str, ...]
     line: str
@@ -251,10 +251,10 @@ MOVING = [
 ]
 RENAMED = "u"
 RENAMING = f"layer rename w {RENAMED}"
-NAMING = ["set w 2 depth 9", "unset w 1 depth", "column add w label text", "column drop w depth", "layer move w 0", RENAMING]
+NAMING = ["column add w label text", "column drop w depth", "layer move w 0", RENAMING]
 
-# None names the layer in an edit that is accepted.
-LEAVING = ("show w", "delete w 99", "add v POINT (1 1)")
+# None is an accepted edit that names the layer, but for those of values, which look for no lost index.
+LEAVING = ("show w", "delete w 99", "add v POINT (1 1)", "set w 2 depth 9", "unset w 1 depth")
 
 
 def trials_of(before: tuple[str, ...], edit: str, neutral: tuple[str, ...], follower: str | None = None) -> list[Trial]:

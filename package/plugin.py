@@ -10,7 +10,8 @@ import control
 
 TOP = Path(__file__).resolve().parent.parent
 PLUGIN = TOP / "qgis" / "sfstore_qgis"
-FILES = sorted([*PLUGIN.glob("*.py"), PLUGIN / "metadata.txt"])
+# By their paths in the plugin.
+FILES = sorted(path.relative_to(PLUGIN) for path in (*PLUGIN.glob("*.py"), *PLUGIN.glob("icons/*.svg"), PLUGIN / "metadata.txt"))
 
 PLACE = Path("usr/share/qgis/python/plugins/sfstore_qgis")
 DOCUMENTS = Path("usr/share/doc/qgis-plugin-sfstore")
@@ -38,20 +39,19 @@ def zipped(version: str) -> Path:
     path.parent.mkdir(exist_ok=True)
     with zipfile.ZipFile(path, "w", zipfile.ZIP_DEFLATED) as made:
         for file in FILES:
-            entry = zipfile.ZipInfo(f"sfstore_qgis/{file.name}", TIME)
+            entry = zipfile.ZipInfo(f"sfstore_qgis/{file.as_posix()}", TIME)
             entry.external_attr = 0o100644 << 16
             entry.compress_type = zipfile.ZIP_DEFLATED
-            made.writestr(entry, file.read_bytes())
+            made.writestr(entry, (PLUGIN / file).read_bytes())
     return path
 
 
 def lay_out(root: Path, version: str) -> None:
     """Puts the files of the Debian package below a folder."""
-    for folder in (PLACE, DOCUMENTS):
-        (root / folder).mkdir(parents=True)
-    for file in FILES:
-        shutil.copyfile(file, root / PLACE / file.name)
-    shutil.copyfile(TOP / "package" / "copyright", root / DOCUMENTS / "copyright")
-    for file in (*(root / PLACE).iterdir(), root / DOCUMENTS / "copyright"):
-        file.chmod(0o644)
+    copies = {PLACE / file: PLUGIN / file for file in FILES}
+    copies[DOCUMENTS / "copyright"] = TOP / "package" / "copyright"
+    for place, file in copies.items():
+        (root / place).parent.mkdir(parents=True, exist_ok=True)
+        shutil.copyfile(file, root / place)
+        (root / place).chmod(0o644)
     control.write(root, CONTROL.format(version=version))

@@ -33,7 +33,7 @@ import programs  # noqa: E402
 
 # What --quick leaves out, by what it waits for or needs.
 LONG = {
-    "a browser": {"test_page", "test_page_background", "test_page_firefox", "test_page_layers", "test_page_meanwhile", "test_page_table", "test_page_views"},
+    "a browser": {"test_page", "test_page_background", "test_page_clerk", "test_page_firefox", "test_page_layers", "test_page_meanwhile", "test_page_table", "test_page_views"},
     "QGIS": {"test_qgis", "test_qgis_whole"},
     "PostgreSQL": {"test_replica", "test_replica_groups", "test_replica_model", "test_web_socket"},
     "other packages": {"test_pages", "test_package"},

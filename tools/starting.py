@@ -90,7 +90,8 @@ def imported(source: Path) -> Path:
     """The store of a map of another format, beside it: as it was left, or imported on the grid that the import proposes."""
     store = source.with_suffix(".sfs")
     if store.exists():
-        print(f"{store} is there already, and opened as it is.")
+        # It does not say of which map it was made: `map.gpkg` and `map.geojson` have one name for theirs.
+        print(f"{store} is there already, and opened as it is. If it was made of another map, give {source} another name.")
         return store
     python = python_with(MAPS, needed=True)
     command = [python, "-m", "sfstore.exchange.importing"]

@@ -134,4 +134,7 @@ def candidates(
 
 def _fits(wanted: str, word: str) -> bool:
     """Whether a word can stand where a usage wants one."""
+    if wanted in ("ASK", "PREDICATE"):
+        # A distance stands behind it, as usages of their own have it.
+        return word != "near"
     return wanted.isupper() or wanted == word

@@ -21,32 +21,36 @@ import webbrowser
 from collections.abc import Callable, Iterator
 from functools import partial
 from pathlib import Path
-from typing import Protocol
+from typing import IO, Protocol, cast
 
 from sfstore import files, sidecar
+from sfstore.broken import broken_by, sentence_of
 from sfstore.commandline import add_version, reason_of, recovered_words, unsaved_question
 from sfstore.commands import TOOLS, candidates, help_text, near_words
 from sfstore.drawing import Drawing
+from sfstore.extents import extent_of
 from sfstore.exchange import exporting, importing
 from sfstore.faults import fault_at, fault_of
+from sfstore.framed import framed
 from sfstore.groups import size_of, text_of
 from sfstore.journal import JournalError, path_of
 from sfstore.language import MEMBERS, words_of_line
-from sfstore.geometry import Shape
-from sfstore.lines import geometry_of, geometry_refused
+from sfstore.lines import geometry_refused
+from sfstore.mapgrid import GridChanged, MapGrid
 from sfstore.mapunits import MapUnits
 from sfstore.refusals import words_of
 from sfstore.store import ProgramEnded, Refused, Store
 from sfstore.storefile import fault_words
+from sfstore.surroundings import Surroundings, far_question
 from sfstore.tools import NotDone
-from sfstore.web.windows import Box, extent_of
+from sfstore.tools.drafting import Drafting
 
 __all__ = ["Console", "main"]
 
 Complete = Callable[[str], "list[str]"]
 
-# How far off a map an addition is asked about: so many times what the map is wide or high, and so many steps besides.
-_FAR_SIDES, _FAR_STEPS = 10, 100_000
+# The tools that put corners where somebody says.
+_WITH_COORDINATES = {"split", "node", "border", "hole"}
 
 _PICTURE = ".svg"
 # What the head of a picture has at most.
@@ -112,7 +116,10 @@ class _PlainTerminal:
 
 def _history_path() -> str | None:
     """Where the lines of earlier sessions are kept, or none where nothing can be written there."""
-    state = os.environ.get("XDG_STATE_HOME") or os.path.join(Path.home(), ".local", "state")
+    state = os.environ.get("XDG_STATE_HOME") or os.path.join(os.path.expanduser("~"), ".local", "state")
+    if not os.path.isabs(state):
+        # Whom the system does not know has no home, as in a container.
+        return None
     folder = os.path.join(state, "sfstore")
     path = os.path.join(folder, "history")
     try:
@@ -138,20 +145,6 @@ def _lines_of(text: str) -> list[str]:
 def _printable(text: str) -> str:
     """A text without what a terminal obeys: a value may have control characters from U+0080 to U+009F."""
     return re.sub("[\x80-\x9f]", lambda found: f"\\x{ord(found[0]):02x}", text)
-
-
-def _is_far(shape: Shape, extent: Box | None) -> bool:
-    """Whether a geometry lies further from a map than ten times what that is wide or high, and than some steps at least."""
-    if extent is None:
-        return True
-    left, bottom, right, top = extent
-    far = _FAR_SIDES * max(right - left, top - bottom) + _FAR_STEPS
-    lines = [line for member in shape.members for line in member]
-    xs, ys = [x for line in lines for x in line[::2]], [y for line in lines for y in line[1::2]]
-    if not xs or len(xs) != len(ys):
-        # The program says what is wrong with it.
-        return False
-    return min(xs) < left - far or max(xs) > right + far or min(ys) < bottom - far or max(ys) > top + far
 
 
 class _Pending:
@@ -186,7 +179,9 @@ class Console:
         self._program = program
         self._in_steps = in_steps
         self._units: MapUnits | None = None
-        self._extent: Box | None = None
+        self._map: sidecar.Sidecar | None = None
+        self._grid: MapGrid | None = None
+        self._surroundings = Surroundings()
         self._store = self._opened()
         self._terminal = make_terminal(self._complete)
         self._is_over = False
@@ -220,7 +215,12 @@ class Console:
         if not line:
             return
         try:
+            if self._grid:
+                self._grid.check()
             self._take(line)
+        except GridChanged as changed:
+            self._leave_group()
+            self._open_anew(str(changed))
         except Refused as refused:
             self._tell_refused(refused)
         except ValueError as error:
@@ -282,7 +282,7 @@ class Console:
         with warnings.catch_warnings():
             # A torn record is told here.
             warnings.simplefilter("ignore", RuntimeWarning)
-            store = Store(self._path, journal=True, program=self._program)
+            store = Store(self._path, journal=True, program=self._program, warn_far_off=False)
         edits, torn = store.recovered
         if edits:
             print(recovered_words(edits))
@@ -293,17 +293,16 @@ class Console:
 
     def _find_units(self) -> None:
         """The map units of the store, where it has a grid; what coordinates are is told."""
-        self._units = None
-        if self._in_steps or not os.path.lexists(sidecar.path_of(self._path)):
+        self._units = self._map = self._grid = None
+        if self._in_steps:
             return
-        try:
-            found = sidecar.read(self._path)
-            self._units = MapUnits(*found.grid)
-        except (sidecar.SidecarError, OSError, ValueError) as error:
-            print(f"Coordinates are steps of the grid: {reason_of(error)}")
-            return
-        system = f" ({found.crs})" if found.crs else ""
-        print(f"Coordinates are those of the map{system}, whole steps of {self._units.step}. With --steps they are counted in steps.")
+        self._grid = MapGrid(self._path)
+        self._units, self._map = self._grid.units, self._grid.found
+        if self._grid.fault:
+            print(self._grid.fault)
+        if self._units and self._map:
+            system = f" ({self._map.crs})" if self._map.crs else ""
+            print(f"Coordinates are those of the map{system}, whole steps of {self._units.step}. With --steps they are counted in steps.")
 
     def _open_anew(self, reason: str) -> None:
         """Goes on from file and journal, where a session was ended by something."""
@@ -317,17 +316,11 @@ class Console:
         return self._units.line(line) if self._units else line
 
     def _is_meant(self, line: str) -> bool:
-        """Whether a line is to be carried out. Of what would lie far off the map of an import that is asked."""
-        if self._units is None or words_of_line(line)[:1] not in (["add"], ["replace"], ["vertex"]):
+        """Whether a line, or the text of a group, is to be carried out. Of what would lie far off the map of an import that is asked."""
+        if self._units is None:
             return True
-        shape = geometry_of(line, self._store)
-        if shape is None or not _is_far(shape, self._extent):
-            return True
-        # Others may have come since.
-        self._extent = extent_of(self._store)
-        if self._extent is None or not _is_far(shape, self._extent):
-            return True
-        return self._yes("That lies far off the map. Is it meant?")
+        point = self._surroundings.point_beyond(line, lambda: extent_of(self._store))
+        return point is None or self._yes(far_question(self._units.point_text(point)))
 
     def _answer(self, line: str) -> None:
         """Has the program carry out a line, and shows its answer."""
@@ -358,8 +351,17 @@ class Console:
         place = self._place(refused)
         if place:
             print(f"  {place}")
+        if refused.rule:
+            self._tell_broken(refused)
         near = near_words(refused.line, in_group=refused.member is not None) if refused.number == 31 else ""
         print(f"  {near or words.help}")
+
+    def _tell_broken(self, refused: Refused) -> None:
+        """Which rule would be broken, and by which features."""
+        broken = broken_by(refused, refused.line, self._store)
+        if broken is not None and broken.features:
+            features = [(each.layer, each.feature) for each in broken.features]
+            print(f"  {_printable(sentence_of(broken.rule, features, self._units))} (rule {broken.rule.name}).")
 
     def _place(self, refused: Refused) -> str:
         """Where a geometry breaks a rule, or nothing."""
@@ -412,9 +414,20 @@ class Console:
         self._members = []
         drawing = Drawing(self._store, self._units, self._show, self._yes)
         try:
-            drawing.run(word, words)
+            if self._are_meant(word, words):
+                drawing.run(word, words)
+            else:
+                print("Nothing was done.")
         except NotDone as fault:
             print(f"Not done: {drawing.told(fault)}.")
+
+    def _are_meant(self, word: str, words: list[str]) -> bool:
+        """Whether what a tool makes of coordinates that were typed is to be carried out."""
+        if self._units is None or word not in _WITH_COORDINATES:
+            return True
+        tried = Drafting(self._store)
+        Drawing(tried, self._units, lambda _: None, lambda _: False).run(word, words)
+        return all(self._is_meant(text_of(group)) for group in tried.groups)
 
     def _picture(self, words: list[str]) -> None:
         """Draws the store as it is, and opens the picture where there is a browser."""
@@ -433,13 +446,16 @@ class Console:
             return
         # It lets others see no more than the store does, or where it was not saved yet its journal.
         like = store if os.path.exists(store) else store + ".journal"
-        with tempfile.TemporaryDirectory() as folder, files.whole_file(target, like) as beside:
+        with tempfile.TemporaryDirectory() as folder, files.whole_file(target, like) as svg:
             copy = os.path.join(folder, "copy.sfs")
             self._store.copy(copy)
-            with open(copy, "rb") as drawn, open(beside, "wb") as svg:
-                ended = subprocess.run([program], stdin=drawn, stdout=svg)  # nosec B603: a list of words, none of a stranger.
-            if ended.returncode:
-                raise RuntimeError(f"sfmap ended with status {ended.returncode}: no picture is drawn")
+            with open(copy, "rb") as drawn:
+                # A list of words, none of a stranger.
+                with subprocess.Popen([program], stdin=drawn, stdout=subprocess.PIPE) as sfmap:  # nosec B603
+                    lines = cast("IO[bytes]", sfmap.stdout)
+                    svg.writelines(framed(lines, self._map) if self._map else lines)
+            if sfmap.returncode:
+                raise RuntimeError(f"sfmap ended with status {sfmap.returncode}: no picture is drawn")
         print(f"{target} is drawn.")
         if os.environ.get("DISPLAY") or os.environ.get("WAYLAND_DISPLAY"):
             with contextlib.suppress(webbrowser.Error):

@@ -11,12 +11,13 @@ from sfstore.editor import Editor
 from sfstore.faults import Point, point_text
 from sfstore.geometry import Shape
 from sfstore.mapunits import MapUnits
-from sfstore.tools import NotDone, border, cleaning, fill, hole, merge, move_node, snapping, split
+from sfstore.tools import NotDone, border, cleaning, fill, hole, merge, move_node, snapping
 from sfstore.tools.cleaning import Changed, Defect
 from sfstore.tools.drafting import Drafting, Planned, planned
 from sfstore.tools.joining import Move
 from sfstore.tools.rings import edges_of
 from sfstore.tools.sending import Which, steps_of
+from sfstore.tools.splitting import parted
 
 __all__ = ["Drawing"]
 
@@ -44,11 +45,12 @@ class Drawing:
         return fault.told(self._at)
 
     def _split(self, words: list[str]) -> None:
-        """Parts a polygon by a line, and tells the numbers of the parts."""
+        """Parts a polygon by a line, and tells the numbers of the parts, and which neighbours have new corners."""
         if len(words) < 3:
             raise ValueError("split takes a layer, a number and a LINESTRING")
-        parts = split(self._store, words[0], _feature(words[1]), self._wkt(words[2:]))
-        self._show(f"ok: {words[0]} {', '.join(map(str, parts))}")
+        done = parted(self._store, words[0], _feature(words[1]), self._wkt(words[2:]))
+        beside = f"; new corners in {_names(done.beside)}" if done.beside else ""
+        self._show(f"ok: {words[0]} {', '.join(map(str, done.parts))}{beside}")
 
     def _merge(self, words: list[str]) -> None:
         """Makes one area of several."""

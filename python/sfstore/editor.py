@@ -11,8 +11,9 @@ from sfstore import edits, spelling, values
 from sfstore.group import Group
 from sfstore.language import QUESTIONS, words_of_line
 from sfstore.program import Link, batches
-from sfstore.results import AnyRule, Answer, Column, ColumnType, Demand, Distance, Feature, Kind, Layer, Near, Predicate, Refused, Rule, RuleForm, Value, ValueRule
-from sfstore.rows import feature_of, rule_of
+from sfstore.results import Answer, Column, ColumnType, Distance, Feature, Kind, Layer, Near, Predicate, Refused, Value
+from sfstore.rows import feature_of
+from sfstore.rules import AnyRule, Demand, Rule, RuleForm, ValueRule, range_words, rule_of
 
 __all__ = ["Editor"]
 
@@ -58,10 +59,12 @@ class Editor:
     []
     """
 
-    def __init__(self, program: Link, address: str) -> None:
+    def __init__(self, program: Link, address: str, look: Callable[[str], object] | None = None) -> None:
         self._program = program
         # What stands before each line.
         self._address = address
+        # What hears of each line before it is sent.
+        self._look = look
 
     def run(self, line: str) -> Answer:
         """The answer of a command line: its one line, or the rows behind ``rows N`` as a list.
@@ -350,7 +353,7 @@ class Editor:
         [2, 3]
         1
         """
-        return Group(self._program, self._address)
+        return Group(self._program, self._address, self._look)
 
     def show(self, layer: str) -> list[Feature]:
         """The features of a layer, by rising identifier.
@@ -400,6 +403,27 @@ class Editor:
         wanted = "" if value is None else f" {values.spelled(value)}"
         rows = self._rows(f"find {spelling.name(layer)} {spelling.name(column)}{wanted}")
         return [int(row) for row in rows]
+
+    def find_between(self, layer: str, column: str, least: Value | None = None, greatest: Value | None = None) -> list[int]:
+        """The features with a value in a column that lies between two ends, or at one of them; one end may be left out.
+
+        They are given by their identifiers, rising.
+
+        >>> from datetime import date
+        >>> with Store() as store:
+        ...     store.add_layer("wells")
+        ...     store.add_column("wells", "drilled", "date")
+        ...     for year in 1987, 2024, 2026:
+        ...         store.set("wells", store.add("wells", "POINT (3 4)"), "drilled", date(year, 5, 1))
+        ...     store.find_between("wells", "drilled", date(1990, 1, 1), date(2024, 12, 31))
+        ...     store.find_between("wells", "drilled", least=date(2024, 5, 1))
+        [2]
+        [2, 3]
+        """
+        if least is None and greatest is None:
+            raise ValueError("one of the ends is wanted, or both")
+        words = ["find", spelling.name(layer), spelling.name(column), *range_words(least, greatest)]
+        return [int(row) for row in self._rows(" ".join(words))]
 
     def hex(self, layer: str, feature_id: int) -> str:
         """The geometry of a feature as well-known binary, in hexadecimal.
@@ -584,46 +608,55 @@ class Editor:
     def join(self, layer: str, ask: str, other: str) -> Iterator[tuple[int, int]]:
         """The pairs of features of two layers, or of one with itself, that are as asked.
 
-        ``ask`` is a predicate, or a pattern of nine letters of ``TF*012``; the feature of the first layer is
-        the first geometry. The pairs of identifiers rise by the first, and then by the second.
+        ``ask`` is a predicate, a pattern of nine letters of ``TF*012``, or ``near`` with a distance in grid steps: the
+        two have points no farther apart. The feature of the first layer is the first geometry. The pairs of
+        identifiers rise by the first, and then by the second.
 
         >>> with Store() as store:
         ...     store.add_layer("wells")
         ...     store.add_layer("parcels")
         ...     store.add("wells", "POINT (3 4)")
-        ...     store.add("wells", "POINT (30 40)")
+        ...     store.add("wells", "POINT (12 13)")
         ...     store.add("parcels", "POLYGON ((0 0, 9 0, 9 9, 0 9, 0 0))")
         ...     list(store.join("wells", "within", "parcels"))
+        ...     list(store.join("wells", "near 5", "parcels"))
         1
         2
         1
         [(1, 1)]
+        [(1, 1), (2, 1)]
         """
-        rows = self._rows(f"join {spelling.name(layer)} {spelling.ask(ask)} {spelling.name(other)}")
+        rows = self._rows(f"join {spelling.name(layer)} {spelling.pair_ask(ask)} {spelling.name(other)}")
         return map(_pair_of, rows)
 
     def join_one(self, layer: str, ask: str, other: str, feature_id: int) -> list[int]:
         """The features of a layer that are as asked with one feature of another, or with another one of theirs.
 
-        They are given by their identifiers, rising.
+        They are given by their identifiers, rising. ``ask`` is as that of `join`.
 
         >>> with Store() as store:
         ...     store.add_layer("parcels")
         ...     store.add("parcels", "POLYGON ((0 0, 9 0, 9 9, 0 9, 0 0))")
         ...     store.add("parcels", "POLYGON ((9 0, 20 0, 20 9, 9 9, 9 0))")
+        ...     store.add("parcels", "POLYGON ((22 0, 30 0, 30 9, 22 9, 22 0))")
         ...     store.join_one("parcels", "touches", "parcels", 2)
+        ...     store.join_one("parcels", "near 2.5", "parcels", 2)
         1
         2
+        3
         [1]
+        [1, 3]
         """
-        words = f"{spelling.name(layer)} {spelling.ask(ask)} {spelling.name(other)} {spelling.identifier(feature_id)}"
+        words = f"{spelling.name(layer)} {spelling.pair_ask(ask)} {spelling.name(other)} {spelling.identifier(feature_id)}"
         return [int(row) for row in self._rows(f"join {words}")]
 
     def add_rule(self, name: str, form: RuleForm, layer: str, ask: str, other: str) -> None:
         """Adds a rule between the features of two layers, or of one, where it holds.
 
         With ``never`` no feature of the first layer is as asked with one of the second; with ``each`` every
-        feature of the first layer is as asked with some other one of the second. ``ask`` is as that of `join`.
+        feature of the first layer is as asked with some other one of the second. ``ask`` is as that of `join`:
+        so ``near 20`` with ``never`` keeps two networks more than 20 grid steps apart.
+
         From then on an edit that would break the rule is refused as 37 RuleBroken, and `Refused.rule` and
         `Refused.ids` say what would break it. An addition is undone and redone as an edit is.
 
@@ -637,33 +670,66 @@ class Editor:
         ...         refused.rule, refused.ids
         1
         ('apart', [1, 2])
+
+        >>> with Store() as store:
+        ...     store.add_layer("pipes", "linestring")
+        ...     store.add_layer("cables", "linestring")
+        ...     store.add_rule("clear", "never", "pipes", "near 20", "cables")
+        ...     store.add("pipes", "LINESTRING (0 0, 100 0)")
+        ...     store.add("cables", "LINESTRING (0 21, 100 21)")
+        ...     try:
+        ...         store.add("cables", "LINESTRING (0 20, 100 20)")
+        ...     except Refused as refused:
+        ...         refused.rule, refused.ids
+        1
+        1
+        ('clear', [1, 2])
         """
         spelling.one_of(RuleForm, form)
-        rule = Rule(spelling.name(name), form, spelling.name(layer), spelling.ask(ask), spelling.name(other))
+        rule = Rule(spelling.name(name), form, spelling.name(layer), spelling.pair_ask(ask), spelling.name(other))
         self.run(f"rule add {rule.line}")
 
-    def add_value_rule(self, name: str, demand: Demand, layer: str, column: str) -> None:
+    def add_value_rule(
+        self,
+        name: str,
+        demand: Demand,
+        layer: str,
+        column: str,
+        allowed: Iterable[Value] = (),
+        least: Value | None = None,
+        greatest: Value | None = None,
+    ) -> None:
         """Adds a rule on the values in a column of a layer, where it holds.
 
-        With ``unique`` no two features have the same value there; of features without a value nothing is asked.
+        With ``unique`` no two features have the same value there. With ``one-of`` each value is one of those that are
+        ``allowed``, 1 to 1,000. With ``range`` each lies between ``least`` and ``greatest``, both of them in the range,
+        of which one may be left out. Of features without a value all these ask nothing.
+
         With ``required`` each feature has a value there: so one is added and given its value as one step, in a
         `together`. An edit that would break the rule is refused as with `add_rule`.
 
         >>> with Store() as store:
         ...     store.add_layer("parcels", "point")
         ...     store.add_column("parcels", "number", "text")
+        ...     store.add_column("parcels", "use", "text")
         ...     store.add_value_rule("numbers", "unique", "parcels", "number")
+        ...     store.add_value_rule("uses", "one-of", "parcels", "use", ["field", "road"])
         ...     for x in 3, 5:
         ...         added = store.add("parcels", f"POINT ({x} 4)")
         ...     store.set("parcels", 1, "number", "17/4")
-        ...     try:
-        ...         store.set("parcels", 2, "number", "17/4")
-        ...     except Refused as refused:
-        ...         refused.rule, refused.ids
+        ...     for column, value in ("number", "17/4"), ("use", "sea"):
+        ...         try:
+        ...             store.set("parcels", 2, column, value)
+        ...         except Refused as refused:
+        ...             refused.rule, refused.ids
         ('numbers', [1, 2])
+        ('uses', [2])
         """
         spelling.one_of(Demand, demand)
-        rule = ValueRule(spelling.name(name), demand, spelling.name(layer), spelling.name(column))
+        rule = ValueRule(spelling.name(name), demand, spelling.name(layer), spelling.name(column), tuple(allowed), least, greatest)
+        has_ends = least is not None or greatest is not None
+        if bool(rule.allowed) != (demand == "one-of") or has_ends != (demand == "range"):
+            raise ValueError("one-of names the values that are allowed, range one end or both, and the others name no value")
         self.run(f"rule add {rule.line}")
 
     def drop_rule(self, name: str) -> None:
@@ -714,7 +780,10 @@ class Editor:
         """A line as it is sent. `RuntimeError` for an edit while a group is open, which it would come before."""
         if self._program.has_group and (words_of_line(line) or [""])[0] not in QUESTIONS:
             raise RuntimeError("a group is open: give it the edit, or end it first")
-        return spelling.encoded(line, self._address)
+        encoded = spelling.encoded(line, self._address)
+        if self._look is not None:
+            self._look(line)
+        return encoded
 
     def _features(self, layer: str, word: str, which: str) -> list[Feature]:
         """The features that a question gives, of which the columns are asked first: a row has no types."""

@@ -10,7 +10,7 @@ import re
 import secrets
 import stat
 from collections.abc import Iterator
-from typing import IO
+from typing import IO, BinaryIO
 
 __all__ = [
     "digest",
@@ -88,22 +88,18 @@ def opened_here(path: str, flags: int) -> int:
     return opened(path, flags | os.O_NOFOLLOW)
 
 
-def made_beside(path: str, like: str | None = None) -> str:
-    """Makes an empty file in a path's folder, under a name that nobody else uses, and gives the name.
+def made_beside(path: str, like: str | None = None) -> tuple[str, int]:
+    """Makes an empty file in a path's folder, under a name that nobody else uses. Gives the name and the open file.
 
-    It has the mode and the group of the file ``like``; where that is missing those of any new file.
+    It is for this user alone where it is to be like a file that is there; else it has the mode of any new file.
     """
     folder, name = os.path.split(os.path.abspath(path))
-    flags = os.O_WRONLY | os.O_CREAT | os.O_EXCL | os.O_NOFOLLOW | os.O_CLOEXEC
+    flags = os.O_RDWR | os.O_CREAT | os.O_EXCL | os.O_NOFOLLOW | os.O_CLOEXEC
     mode = 0o600 if like is not None and os.path.exists(like) else 0o666
     while True:
         beside = os.path.join(folder, f".{name}{_MARK}{secrets.token_hex(_DIGITS // 2)}")
         with contextlib.suppress(FileExistsError):
-            os.close(os.open(beside, flags, mode))
-            break
-    if like is not None:
-        keep_mode(beside, like)
-    return beside
+            return beside, os.open(beside, flags, mode)
 
 
 def remove_leftovers(path: str) -> None:
@@ -117,20 +113,14 @@ def remove_leftovers(path: str) -> None:
                 os.unlink(os.path.join(folder, found))
 
 
-def keep_mode(path: str, like: str) -> None:
-    """Gives a file the mode, the group and, where that can be, the owner of another one.
+def keep_mode(file: int, like: str) -> None:
+    """Gives an open file the mode, the group and, where that can be, the owner of another one.
 
     Nothing is changed where the other one is missing.
     """
-    try:
+    with contextlib.suppress(FileNotFoundError):
         wanted = os.stat(like)
-    except FileNotFoundError:
-        return
-    file = os.open(path, os.O_RDONLY | os.O_NOFOLLOW | os.O_CLOEXEC)
-    try:
         give(file, wanted, stat.S_IMODE(wanted.st_mode) & 0o777)
-    finally:
-        os.close(file)
 
 
 def give(file: int, like: os.stat_result, mode: int) -> None:
@@ -153,27 +143,31 @@ def give(file: int, like: os.stat_result, mode: int) -> None:
 
 
 @contextlib.contextmanager
-def whole_file(path: str, like: str | None = None) -> Iterator[str]:
-    """The name of an empty file beside, which takes the place of ``path`` where the body ends well.
+def whole_file(path: str, like: str | None = None) -> Iterator[BinaryIO]:
+    """An empty file beside, open, which takes the place of ``path`` where the body ends well.
 
     It gets the mode and the group of the file ``like``, or where there is none of the one that is
     there. A link that is there is not followed: the file takes its place. Where the body raises,
     the file beside is taken away, and ``path`` is as it was.
+
+    The body writes to the open file and to no name: whoever may write in the folder can put a link under each name.
     """
     if os.path.exists(path) and not os.path.isfile(path):
         raise OSError(errno.EINVAL, "no file that another one could take the place of", path)
     if (like is None or not os.path.exists(like)) and not os.path.islink(path):
         like = path
-    beside = made_beside(path, like)
+    beside, made = made_beside(path, like)
     try:
-        yield beside
-        if not stat.S_ISREG(os.lstat(beside).st_mode):
-            raise OSError(errno.ELOOP, "something else stands in its place", beside)
-        if like is not None:
-            keep_mode(beside, like)
-        sync(beside)
-        replace(beside, path)
+        with open(made, "w+b") as file:
+            yield file
+            file.flush()
+            if not is_at(made, beside):
+                raise OSError(errno.ELOOP, "something else stands in its place", beside)
+            if like is not None:
+                keep_mode(made, like)
+            os.fsync(made)
+            replace(beside, path)
     except BaseException:
-        with contextlib.suppress(FileNotFoundError):
+        with contextlib.suppress(OSError):
             os.unlink(beside)
         raise

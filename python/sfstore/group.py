@@ -2,6 +2,7 @@
 
 from __future__ import annotations
 
+from collections.abc import Callable
 from types import TracebackType
 from typing import Union, cast
 
@@ -65,9 +66,10 @@ class Group:
     of any edit. Outside of the ``with``, and in another thread, the calls raise `RuntimeError`.
     """
 
-    def __init__(self, program: Link, address: str) -> None:
+    def __init__(self, program: Link, address: str, look: Callable[[str], object] | None = None) -> None:
         self._program = program
         self._address = address
+        self._look = look
         self._members: list[bytes] = []
         self._added: list[Added] = []
         # The last one of each layer.
@@ -154,7 +156,10 @@ class Group:
             raise RuntimeError("the group is not open: its calls stand inside of its `with`")
         if len(self._members) == GROUP_MAX:
             raise ValueError(f"a group has at most {GROUP_MAX} members")
-        self._members.append(spelling.encoded(line))
+        encoded = spelling.encoded(line)
+        if self._look is not None:
+            self._look(line)
+        self._members.append(encoded)
 
     def _word(self, layer: str, feature: Which) -> str:
         """The word for a feature. `ValueError` for an addition that can't be named here."""

@@ -217,7 +217,7 @@ def renew_old(store: str) -> int:
     edits = old.edits_over_file
     if edits is None:
         raise other_file(store, path)
-    with files.whole_file(path, store) as beside, open(beside, "wb") as new:
+    with files.whole_file(path, store) as new:
         new.write(_journal(head_of(store), edits))
     return len(old.torn)
 

@@ -9,10 +9,11 @@ import tempfile
 import time
 import warnings
 from collections.abc import Callable, Sequence
-from typing import IO
+from typing import IO, BinaryIO
 
 from sfstore import journal, sidecar
 from sfstore.kept import Kept
+from sfstore.language import QUESTIONS
 from sfstore.program import is_edit, started
 from sfstore.results import Answer, JournalError, PathName, ProgramEnded, Recovered, Refused
 
@@ -84,6 +85,10 @@ class Journaled:
         """`JournalError` where the file is not the one that the lines go on from."""
         return self.reading()()
 
+    def open_file(self) -> BinaryIO | None:
+        """As `Kept.open_file` has it."""
+        return self._kept.open_file()
+
     def reading(self) -> Callable[[], list[str]]:
         """What reads the lines that there are now, as `Kept.reading` has it."""
         read = self._kept.reading()
@@ -97,6 +102,9 @@ class Journaled:
 
     def exchange(self, lines: Sequence[bytes]) -> list[Answer | Refused]:
         self._check_open()
+        if not all(map(_is_question, lines)):
+            # No file would go with the journal that has the edits.
+            self._kept.check()
         self._in_doubt = True
         try:
             outcomes = self._program.exchange([_REFUSED.get(line, line) for line in lines])
@@ -227,6 +235,14 @@ class Journaled:
             self._open()
             self._in_doubt = False
         return self._kept.unsavable(self._kept.path, _SAVE_FAULTS[ended.last_line])
+
+
+def _is_question(line: bytes) -> bool:
+    """Whether a line edits nothing, by its first words."""
+    words = line.split(None, 2)
+    if words and words[0].startswith(b"@"):
+        words = words[1:]
+    return not words or words[0].decode("ascii", "replace") in QUESTIONS
 
 
 def _said_file() -> IO[bytes] | None:

@@ -9,11 +9,12 @@ import subprocess  # nosec B404: the store's own program is started, without a s
 import tempfile
 from collections.abc import Callable, Iterator
 from pathlib import Path
-from typing import IO
+from typing import IO, BinaryIO
 
 from sfstore import files, journal, sidecar
 from sfstore.program import checked_path
 from sfstore.results import JournalError
+from sfstore.storefile import is_store
 
 __all__ = ["Kept"]
 
@@ -117,19 +118,30 @@ class Kept:
 
         return read
 
+    def open_file(self) -> BinaryIO | None:
+        """The file that the edits go on from, open; none where a store is new. `JournalError` where another one is there."""
+        self.check()
+        if not self._seen:
+            return None
+        file = open(self.path, "rb", opener=files.opened)
+        if _state(file.fileno()) != self._seen:
+            file.close()
+            raise self._changed()
+        return file
+
     def copy(self, path: str, program: str) -> None:
         """Has a second program make another file of the store's file and the edits.
 
-        It takes the place of one that is there. `JournalError` where it can't be made, and where
-        the path is one of the store's own files; what is there is then as it was.
+        It takes the place of a store that is there. `JournalError` where it can't be made, and where the path is one of
+        the store's own files, or of a file that is no store. The same where another session has the store there, or its
+        journal has edits. What is there is then as it was.
         """
         target = os.path.realpath(path)
         if any(_is_same(target, own) for own in self._own_files()):
             raise JournalError(f"{path} is one of the files of {self.path}: no copy takes its place")
         try:
-            with files.whole_file(target, None if os.path.exists(target) else self.path) as beside:
-                with open(beside, "r+b") as made:
-                    self._have_made(made, path, program)
+            with _given_way(target), files.whole_file(target, None if os.path.exists(target) else self.path) as made:
+                self._have_made(made, path, program)
         except OSError as error:
             raise self.unsavable(path, str(error.strerror)) from error
 
@@ -198,8 +210,24 @@ class Kept:
         yield from (journal.new_file_of(self.path), journal.new_journal_of(self.path))
 
 
-def _state(path: str) -> tuple[int, ...]:
-    """What is another one after any writing to a file, or putting another one in its place. Empty where none is there."""
+@contextlib.contextmanager
+def _given_way(target: str) -> Iterator[None]:
+    """Has a store's file give way to a copy in the body, while no session has it. `JournalError` where more than the file would be lost."""
+    if not any(map(os.path.lexists, (target, journal.path_of(target), target + ".lock"))):
+        # No lock is left where a copy is made for the first time.
+        yield
+        return
+    if os.path.exists(target) and not (os.path.isfile(target) and is_store(target)):
+        raise JournalError(f"{target} is no store: no copy takes its place")
+    with journal.locked_shortly(target):
+        edits = journal.edits_left(target)
+        if edits:
+            raise JournalError(f"{target} has {edits} edits in its journal that are not saved: no copy takes its place")
+        yield
+
+
+def _state(path: str | int) -> tuple[int, ...]:
+    """What, of a path or an open file, is another one after any writing to a file, or putting another one in its place. Empty where none is there."""
     try:
         found = os.stat(path)
     except FileNotFoundError:

@@ -8,6 +8,7 @@ from __future__ import annotations
 
 import re
 from collections.abc import Sequence
+from decimal import Decimal
 from typing import Literal, NamedTuple, Optional
 
 __all__ = [
@@ -30,6 +31,7 @@ __all__ = [
     "LINE_MAX",
     "MEMBERS",
     "NAME",
+    "NEAR",
     "PATTERN",
     "PLACES_MAX",
     "POINTS_MAX",
@@ -38,8 +40,10 @@ __all__ = [
     "TEXT_MAX",
     "Command",
     "Touched",
+    "distance_asked",
     "edits_of",
     "parted",
+    "place_of_distance",
     "words_of_line",
 ]
 
@@ -76,6 +80,9 @@ IDENTIFIER_MAX = 4_294_967_295
 IDENTIFIERS_MAX = 1_000
 """How many identifiers `get`, `area` and `length` take at once."""
 
+ALLOWED_MAX = 1_000
+"""How many values a rule names at most."""
+
 INT_MIN, INT_MAX = -(2**63), 2**63 - 1
 """From where to where the values of a column of whole numbers go, and the mantissa of a decimal."""
 
@@ -105,6 +112,9 @@ NAME = re.compile(r"[A-Za-z][A-Za-z0-9_]{0,31}")
 
 PATTERN = re.compile(r"[TtFf*012]{9}")
 """A pattern of matrices."""
+
+NEAR = re.compile(r"near [0-9]{1,30}(?:\.[0-9]{1,30})?")
+"""What joins and rules ask of two features that are no farther from one another than a distance."""
 
 Touched = Literal["layers", "columns", "geometries", "values", "features", "rules", "history"]
 """What an edit changes: which layers there are, their columns, geometries, values; rules; or it moves a step.
@@ -205,6 +215,11 @@ COMMANDS = [
         "find wells label 'old'",
     ),
     Command(
+        "find LAYER COLUMN VALUE to VALUE",
+        "lists those whose value lies between these, or is one of them; one of the two may be left out",
+        "find wells depth 10 to 40",
+    ),
+    Command(
         "check LAYER WKT",
         "says what adding the geometry would bring, and where it is wrong; adds nothing",
         "check parcels POLYGON ((0 0, 4 0, 4 4, 0 0))",
@@ -255,6 +270,11 @@ COMMANDS = [
         "join wells within parcels",
     ),
     Command(
+        "join LAYER near D LAYER",
+        "lists the pairs that have points no farther apart than D grid steps; with an ID behind them those beside one feature",
+        "join wells near 2.5 parcels",
+    ),
+    Command(
         "rule add NAME never LAYER ASK LAYER",
         "from now on no two features of these layers, or of the one, are so",
         "rule add apart never parcels overlaps parcels",
@@ -267,6 +287,18 @@ COMMANDS = [
         "rules",
     ),
     Command(
+        "rule add NAME never LAYER near D LAYER",
+        "from now on no two features of these layers, or of the one, have points no farther apart than D grid steps",
+        "rule add spaced never wells near 2.5 wells",
+        "rules",
+    ),
+    Command(
+        "rule add NAME each LAYER near D some LAYER",
+        "from now on each feature of the first layer has some other one of the second no farther away than D grid steps",
+        "rule add reached each wells near 40 some roads",
+        "rules",
+    ),
+    Command(
         "rule add NAME unique LAYER COLUMN",
         "from now on no two features of the layer have the same value there",
         "rule add labels unique wells label",
@@ -276,6 +308,18 @@ COMMANDS = [
         "rule add NAME required LAYER COLUMN",
         "from now on each feature of the layer has a value there",
         "rule add labelled required wells label",
+        "rules",
+    ),
+    Command(
+        "rule add NAME one-of LAYER COLUMN VALUE, VALUE ..",
+        "from now on each value there is one of these",
+        "rule add ages one-of wells label 'old', 'new'",
+        "rules",
+    ),
+    Command(
+        "rule add NAME range LAYER COLUMN VALUE to VALUE",
+        "from now on each value there lies between these, which are in the range; one of them may be left out",
+        "rule add depths range wells depth 0 to 900",
         "rules",
     ),
     Command("rule drop NAME", "drops a rule", "rule drop apart", "rules"),
@@ -333,6 +377,29 @@ def is_near(words: Sequence[str]) -> bool:
     True
     """
     return words[:1] == ["query"] and words[2:3] == ["near"]
+
+
+def place_of_distance(words: Sequence[str]) -> Optional[int]:
+    """Where the distance stands that a line asks about, among its words from 0 on, or none where it asks about none.
+
+    >>> place_of_distance(["query", "wells", "near", "2.5", "POINT", "(3", "4)"])
+    3
+    >>> place_of_distance(["rule", "add", "apart", "never", "wells", "near", "2.5", "wells"])
+    6
+    """
+    is_rule = words[:2] == ["rule", "add"] and words[3:4] in (["never"], ["each"])
+    asked = 5 if is_rule else 2 if words[:1] in (["query"], ["join"]) else None
+    return asked + 1 if asked is not None and words[asked : asked + 1] == ["near"] else None
+
+
+def distance_asked(ask: str) -> Optional[Decimal]:
+    """The distance that is asked about two features, or none where a predicate or a pattern is.
+
+    >>> distance_asked("near 2.5"), distance_asked("touches")
+    (Decimal('2.5'), None)
+    """
+    found = NEAR.fullmatch(ask)
+    return Decimal(found[0].removeprefix("near ")) if found else None
 
 
 def words_before_geometry(words: Sequence[str]) -> Optional[int]:

@@ -2,9 +2,10 @@
 
 from __future__ import annotations
 
+from sfstore.editor import Editor
 from sfstore.geometry import NotTaken, Shape, read_wkb, read_wkt
 from sfstore.language import words_before_geometry, words_of_line
-from sfstore.store import Editor, Refused
+from sfstore.results import Refused
 
 __all__ = ["geometry_of", "geometry_refused"]
 

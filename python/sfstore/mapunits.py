@@ -14,16 +14,17 @@ from functools import reduce
 from typing import NamedTuple
 
 from sfstore.groups import lines_of
-from sfstore.language import DISTANCE_PLACES, GRID_MAX, GRID_MIN, is_near, words_before_geometry, words_of_line
+from sfstore.language import DISTANCE_PLACES, GRID_MAX, GRID_MIN, place_of_distance, words_before_geometry, words_of_line
 
 __all__ = ["MapUnits", "NoPlace", "grid_decimal"]
 
 # The text of a coordinate made of another one, by its axis and as it is written.
 _Change = Callable[[int, str], str]
 
-# A vertex is the last two of so many words, and the distance of a query the last of so many.
+# A vertex is the last two of so many words.
 _WORDS_OF_VERTEX = 9
-_WORDS_TO_DISTANCE = 4
+# A row of rules is what stands behind these words where one is added.
+_RULE_ADD = "rule add "
 _ADDRESS = re.compile(r"[ \t]*@[0-9]{1,3}(?=[ \t])")
 _WORD = re.compile(r"[ \t]*[^ \t]+")
 _WKT_TOKEN = re.compile(r"[(),]|[^ \t(),]+")
@@ -145,8 +146,16 @@ class MapUnits:
         if scaled.denominator == 1:
             return _shortest(Decimal(scaled.numerator).scaleb(-DISTANCE_PLACES, _EXACT))
         below = scaled.numerator // scaled.denominator
-        near = " and ".join(str(self.length(Decimal(each).scaleb(-DISTANCE_PLACES, _EXACT))) for each in (below, below + 1))
-        raise NoPlace(f"the distance {distance} is no whole number of thousandths of a grid step; {near} are")
+        near = " and ".join(format(self.length(Decimal(each).scaleb(-DISTANCE_PLACES, _EXACT)), "f") for each in (below, below + 1))
+        raise NoPlace(f"the distance {distance:f} is no whole number of thousandths of a grid step; {near} are")
+
+    def coordinate(self, axis: int, step: int) -> str:
+        """The coordinate of a step along x (0) or y (1), with all of its digits.
+
+        >>> MapUnits("500000", "5600000", "0.01").coordinate(1, 1550)
+        '5600015.50'
+        """
+        return self._axes[axis].place_of(step)
 
     def point_text(self, point: tuple[int | Fraction, int | Fraction]) -> str:
         """A place in map units, as ``(500045.00 5600015.50)``. One that has no end as a decimal is rounded, behind a ``~``."""
@@ -211,6 +220,9 @@ class MapUnits:
         exact = _EXACT.divide(Decimal(scaled.numerator), Decimal(scaled.denominator)) if rest == 1 else None
         return str(scaled) if exact is None else format(_shortest(exact), "f")
 
+    def _rule_row(self, row: str) -> str:
+        return self.shown_line(f"{_RULE_ADD}{row}").removeprefix(_RULE_ADD)
+
     def _shape_row(self, row: str) -> str:
         return _SHAPE_OF_ROW.sub(lambda found: found[1] + self.places(found[2]), row, count=1)
 
@@ -233,6 +245,7 @@ _ROWS: dict[str, Callable[[MapUnits, str], str]] = {
     "length": MapUnits._length_row,
     "distance": MapUnits._distance_row,
     "nearest": MapUnits._length_row,
+    "rules": MapUnits._rule_row,
 }
 
 
@@ -293,9 +306,10 @@ def _coordinates_changed(line: str, change: _Change) -> str:
 
 def _distance_changed(line: str, change: Callable[[str], str]) -> str:
     """A line with the distance changed that it asks for, where it is one that can be read."""
-    if not is_near(words_of_line(line)):
+    place = place_of_distance(words_of_line(line))
+    if place is None:
         return line
-    start, end = _end_of_words(line, _WORDS_TO_DISTANCE - 1), _end_of_words(line, _WORDS_TO_DISTANCE)
+    start, end = _end_of_words(line, place), _end_of_words(line, place + 1)
     word = line[start:end].strip(" \t")
     return line[:start] + " " + change(word) + line[end:] if _NUMBER.fullmatch(word) else line
 

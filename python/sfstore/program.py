@@ -77,7 +77,7 @@ class ProgramMissing(FileNotFoundError):
         return f"{self.filename}: the program was not found. {_HOW_TO_GET_IT}"
 
 
-def _begun(words: list[str], errors: IO[bytes] | None) -> subprocess.Popen[bytes]:
+def _begun(words: list[str], errors: IO[bytes] | None, handed: Sequence[int]) -> subprocess.Popen[bytes]:
     """A process with pipes. `ProgramMissing` where there is no such program."""
     try:
         # In a session of its own no key of the terminal ends the program while it saves.
@@ -87,6 +87,7 @@ def _begun(words: list[str], errors: IO[bytes] | None) -> subprocess.Popen[bytes
             stdin=subprocess.PIPE,
             stdout=subprocess.PIPE,
             stderr=errors,
+            pass_fds=handed,
             start_new_session=True,
         )
     except FileNotFoundError:
@@ -96,10 +97,11 @@ def _begun(words: list[str], errors: IO[bytes] | None) -> subprocess.Popen[bytes
 class Program:
     """A running program, the pipes to and from it, and who may use them.
 
-    What it says beside its answers goes where Python's does, or to the open file ``errors``.
+    What it says beside its answers goes where Python's does, or to the open file ``errors``. It has the open files of the
+    numbers ``handed``, by the same numbers.
     """
 
-    def __init__(self, words: list[str], errors: IO[bytes] | None = None) -> None:
+    def __init__(self, words: list[str], errors: IO[bytes] | None = None, handed: Sequence[int] = ()) -> None:
         self._thread = threading.current_thread()
         self._owner = os.getpid()
         self._closed = False
@@ -109,7 +111,7 @@ class Program:
         self._unsent = memoryview(b"")
         self._lines: deque[str] = deque()
         self._rest = b""
-        self._process = _begun(words, errors)
+        self._process = _begun(words, errors, handed)
         self._input = cast("IO[bytes]", self._process.stdin)
         self._output = cast("IO[bytes]", self._process.stdout)
         self._finalizer = weakref.finalize(self, _abandon, self._process, self._owner)
@@ -267,9 +269,9 @@ def checked_path(path: PathName) -> str:
     return word
 
 
-def started(words: list[str], errors: IO[bytes] | None = None) -> Program:
+def started(words: list[str], errors: IO[bytes] | None = None, handed: Sequence[int] = ()) -> Program:
     """A program that has loaded its file. `ProgramEnded` where it could not."""
-    program = Program(words, errors)
+    program = Program(words, errors, handed)
     try:
         # It is answered when the file is loaded.
         [answer] = program.exchange([_GREETING])

@@ -79,7 +79,8 @@ REFUSALS = {
     38: Words("the input ended inside a group", "Send all of its lines at once."),
     39: Words("no rule has this name", "`rules` lists them."),
     40: Words("a rule has this name already", "Take another name."),
-    41: Words("a rule names this layer or this column", "Drop the rule first: `rules` lists them."),
+    41: Words("a rule names this layer", "Drop the rule first: `rules` lists them."),
+    42: Words("a rule names this column", "Drop the rule first: `rules` lists them."),
 }
 """The words of each refusal, by its number."""
 

@@ -29,8 +29,6 @@ __all__ = [
     "ProgramEnded",
     "Recovered",
     "Refused",
-    "Rule",
-    "RuleForm",
     "Value",
 ]
 
@@ -64,10 +62,6 @@ Predicate = Literal[
     "equals", "disjoint", "intersects", "touches", "within", "contains", "crosses", "overlaps"
 ]
 """What may be asked of a feature's geometry and a given one."""
-RuleForm = Literal["never", "each"]
-"""What a rule says: that no two features are so, or that each is so with some other one."""
-Demand = Literal["unique", "required"]
-"""What a rule demands of the values in a column: that no two features have the same one, or that each has one."""
 
 PathName = Union[str, "os.PathLike[str]"]
 """The name of a file."""
@@ -259,61 +253,6 @@ class Layer(NamedTuple):
 
     name: str
     kind: Kind
-
-
-class Rule(NamedTuple):
-    """A rule between the features of two layers, or of one.
-
-    >>> Rule("placed", "each", "wells", "within", "parcels").line
-    'placed each wells within some parcels'
-    """
-
-    name: str
-    form: RuleForm
-    layer: str
-    """The first layer. The feature of it is the first geometry of what is asked."""
-    ask: str
-    """A predicate, or a pattern of nine letters of ``TF*012``."""
-    other: str
-    """The second layer, which may be the first."""
-
-    @property
-    def line(self) -> str:
-        """Its row of ``rules``, and what stands behind ``rule add``."""
-        some = ["some"] if self.form == "each" else []
-        return " ".join([self.name, self.form, self.layer, self.ask, *some, self.other])
-
-    @property
-    def layers(self) -> tuple[str, str]:
-        """The layers of the features that may break it: of the first, and of the second."""
-        return self.layer, self.other
-
-
-class ValueRule(NamedTuple):
-    """A rule on the values in a column of a layer.
-
-    >>> ValueRule("numbers", "unique", "parcels", "number").line
-    'numbers unique parcels number'
-    """
-
-    name: str
-    demand: Demand
-    layer: str
-    column: str
-
-    @property
-    def line(self) -> str:
-        """Its row of ``rules``, and what stands behind ``rule add``."""
-        return " ".join(self)
-
-    @property
-    def layers(self) -> tuple[str, str]:
-        """The layers of the features that may break it: both are its own."""
-        return self.layer, self.layer
-
-
-AnyRule = Union[Rule, ValueRule]
-"""A rule, of whichever kind."""
 
 
 class Column(NamedTuple):

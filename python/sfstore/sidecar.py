@@ -46,7 +46,7 @@ _RANGE = re.compile("(-?[0-9]{1,20})(?:-(-?[0-9]{1,20}))?")
 _PASSING = {errno.EAGAIN, errno.EINTR, errno.EIO, errno.EMFILE, errno.ENFILE, errno.ENOMEM, errno.ENOSPC, errno.ESTALE}
 # How many sources it names at most that were added.
 _ADDITIONS_MAX = 1_000
-_BESIDE = (".json", ".json.next", ".journal", ".journal.lock", ".lock", ".editors", ".batches", ".styles")
+_BESIDE = (".json", ".json.next", ".journal", ".journal.lock", ".lock", ".editors", ".batches", ".styles", ".qgis")
 
 
 class SidecarError(Exception):
@@ -218,11 +218,10 @@ def write(store: str, found: Sidecar, digests: list[str]) -> None:
     layers = [_left_told(layer) for layer in found.layers]
     additions = [_left_told(addition) for addition in found.additions]
     content = {"format": _FORMAT, **asdict(found), "layers": layers, "digests": digests, "additions": additions}
-    with files.whole_file(path_of(store), store) as beside:
-        with open(beside, "w", encoding="utf-8") as file:
-            # In ASCII, since half a pair of surrogates has no place in UTF-8.
-            json.dump(content, file, indent=1)
-            file.write("\n")
+    # In ASCII, since half a pair of surrogates has no place in UTF-8.
+    data = json.dumps(content, indent=1).encode("ascii") + b"\n"
+    with files.whole_file(path_of(store), store) as file:
+        file.write(data)
 
 
 def follow(store: str, old: str, next_digest: Callable[[], str]) -> str | None:

@@ -8,7 +8,7 @@ from decimal import Decimal
 from typing import Any, get_args
 
 from sfstore.groups import lines_of, size_of
-from sfstore.language import DISTANCE_LIMIT, DISTANCE_PLACES, EDITOR_MAX, IDENTIFIER_MAX, IDENTIFIERS_MAX, NAME, PATTERN, PREDICATES
+from sfstore.language import DISTANCE_LIMIT, DISTANCE_PLACES, EDITOR_MAX, IDENTIFIER_MAX, IDENTIFIERS_MAX, NAME, PATTERN, PREDICATES, distance_asked
 
 __all__ = [
     "count",
@@ -21,6 +21,7 @@ __all__ = [
     "integer",
     "name",
     "one_of",
+    "pair_ask",
     "pattern",
     "vertex",
 ]
@@ -69,8 +70,18 @@ def pattern(text: str) -> str:
 
 
 def ask(text: str) -> str:
-    """What a join asks: a predicate, or a pattern."""
+    """What chains ask: a predicate, or a pattern."""
     return text if text in PREDICATES else pattern(text)
+
+
+def pair_ask(text: str) -> str:
+    """What joins and rules ask of two features: a predicate, a pattern, or ``near`` with a distance in grid steps.
+
+    >>> pair_ask("touches"), pair_ask("near 2.5")
+    ('touches', 'near 2.5')
+    """
+    steps = distance_asked(text)
+    return ask(text) if steps is None else f"near {distance(steps)}"
 
 
 def one_of(words: Any, word: str) -> str:

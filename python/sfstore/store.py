@@ -18,12 +18,14 @@ The module needs POSIX and nothing beside the standard library.
 from __future__ import annotations
 
 import os
+import warnings
 from collections.abc import Callable
 from types import TracebackType
-from typing import TYPE_CHECKING, Literal, overload
+from typing import TYPE_CHECKING, BinaryIO, Literal, overload
 
 from sfstore import sidecar
 from sfstore.editor import Editor
+from sfstore.extents import extent_of
 from sfstore.group import Added, Group, Which
 from sfstore.journaled import Journaled
 from sfstore.mapunits import MapUnits, NoPlace
@@ -32,7 +34,6 @@ from sfstore.results import (
     Answer,
     Column,
     ColumnType,
-    Demand,
     Distance,
     Feature,
     Kind,
@@ -44,14 +45,13 @@ from sfstore.results import (
     ProgramEnded,
     Recovered,
     Refused,
-    Rule,
-    RuleForm,
     Value,
-    ValueRule,
 )
 from sfstore.rows import row_values
+from sfstore.rules import Demand, Rule, RuleForm, ValueRule
 from sfstore.sidecar import Sidecar, SidecarError
 from sfstore.spelling import editor as editor_number
+from sfstore.surroundings import FarOffTheMap, Surroundings, level_of_caller
 
 if TYPE_CHECKING:
     from geopandas import GeoDataFrame
@@ -64,6 +64,7 @@ __all__ = [
     "Demand",
     "Distance",
     "Editor",
+    "FarOffTheMap",
     "Feature",
     "Group",
     "Kind",
@@ -90,7 +91,8 @@ __all__ = [
 class Store(Editor):
     """A store of layers, columns and features, held by a program that this object starts.
 
-    ``load`` names a file to begin with, ``save`` one to which the store is saved when it is closed.
+    ``load`` names a file to begin with, by its path or by the number of an open one, and ``save`` one to which the store is
+    saved when it is closed.
     ``program`` is a path, or a name that is searched on the ``PATH``.
     `ProgramEnded` if the file can't be loaded, and `OSError` if a path is not UTF-8: the program takes no other.
 
@@ -111,6 +113,9 @@ class Store(Editor):
     file is missing a new store begins. `JournalError` if another session has the file, or if file
     and journal do not fit. docs/use/JOURNAL.md of the project says what is promised.
 
+    A store whose file has a grid beside it warns of an edit that lies far off the map: `FarOffTheMap`.
+    It does not if ``warn_far_off`` is false.
+
     Only the thread that made a store may use it: elsewhere, and in a forked process,
     its methods raise `RuntimeError`.
 
@@ -122,42 +127,52 @@ class Store(Editor):
 
     @overload
     def __init__(
-        self, program: PathName, /, load: PathName | None = None, save: PathName | None = None
+        self, program: PathName, /, load: PathName | None = None, save: PathName | None = None, *, warn_far_off: bool = True
     ) -> None: ...
 
     @overload
     def __init__(
-        self, *, program: PathName = "sfstore", load: PathName | None = None, save: PathName | None = None
+        self,
+        *,
+        program: PathName = "sfstore",
+        load: PathName | int | None = None,
+        save: PathName | None = None,
+        warn_far_off: bool = True,
     ) -> None: ...
 
     @overload
     def __init__(
-        self, path: PathName, /, *, journal: Literal[True], program: PathName = "sfstore"
+        self, path: PathName, /, *, journal: Literal[True], program: PathName = "sfstore", warn_far_off: bool = True
     ) -> None: ...
 
     def __init__(
         self,
         path: PathName | None = None,
-        load: PathName | None = None,
+        load: PathName | int | None = None,
         save: PathName | None = None,
         *,
         program: PathName | None = None,
         journal: bool = False,
+        warn_far_off: bool = True,
     ) -> None:
-        self._file = os.fsdecode(path) if journal and path is not None else None if load is None else os.fsdecode(load)
+        file = path if journal else load
+        self._file = None if file is None or isinstance(file, int) else os.fsdecode(file)
+        self._surroundings = Surroundings()
+        look = self._warn if warn_far_off and self._has_sidecar() else None
         if not journal:
             if path is not None and program is not None:
                 raise TypeError("the program is named twice")
             words = [os.fsdecode(path or program or "sfstore")]
+            handed = [load] if isinstance(load, int) else []
             if load is not None:
-                words.append(f"--load={checked_path(load)}")
+                words.append(f"--load=/dev/fd/{load}" if isinstance(load, int) else f"--load={checked_path(load)}")
             if save is not None:
                 words.append(f"--save={checked_path(save)}")
-            super().__init__(started(words), "")
+            super().__init__(started(words, handed=handed), "", look)
             return
         if path is None or load is not None or save is not None:
             raise TypeError("a store with a journal is named by its path alone")
-        super().__init__(Journaled(os.fsdecode(program or "sfstore"), path), "")
+        super().__init__(Journaled(os.fsdecode(program or "sfstore"), path), "", look)
 
     def __enter__(self) -> Store:
         return self
@@ -230,10 +245,11 @@ class Store(Editor):
     def copy(self, path: PathName) -> None:
         """Writes a store with a journal as it is now to another file; nothing else is changed.
 
-        The copy takes the place of a file that is there when it is whole, and not before.
+        The copy takes the place of a store that is there when it is whole, and not before.
         `JournalError` if it can't be made, if the path is one of the store's own files, or if
-        another program has changed the store's file or its journal. `RuntimeError` without a
-        journal.
+        another program has changed the store's file or its journal. So it is if the file there is
+        no store, if another session has it open, or if its journal has edits. `RuntimeError`
+        without a journal.
         """
         self._journaled().copy(os.fsdecode(path))
 
@@ -254,6 +270,10 @@ class Store(Editor):
         that the lines do not go on from it, or the journal. `RuntimeError` without a journal.
         """
         return self._journaled().unsaved_lines
+
+    def _open_file(self) -> BinaryIO | None:
+        """The file that `unsaved_lines` go on from, open, be another one put in its place; none where a new store was not saved yet."""
+        return self._journaled().open_file()
 
     def _reading(self) -> Callable[[], list[str]]:
         """What reads `unsaved_lines` as they are now, in whatever thread, while further edits are made."""
@@ -296,9 +316,18 @@ class Store(Editor):
 
     def _sidecar(self) -> Sidecar | None:
         """What stands beside the store's file, where something does."""
-        if self._file is None or not os.path.lexists(sidecar.path_of(self._file)):
-            return None
-        return sidecar.read(self._file)
+        return sidecar.read(self._file) if self._file is not None and self._has_sidecar() else None
+
+    def _has_sidecar(self) -> bool:
+        """Whether something stands in the place of a side-car of the store's file."""
+        return self._file is not None and os.path.lexists(sidecar.path_of(self._file))
+
+    def _warn(self, line: str) -> None:
+        """Warns of an edit that lies far off the map."""
+        point = self._surroundings.point_beyond(line, lambda: extent_of(self))
+        if point is not None:
+            words = f"({point[0]} {point[1]}) lies far off the map, in steps of its grid"
+            warnings.warn(words, FarOffTheMap, stacklevel=level_of_caller())
 
     def editor(self, number: int) -> Editor:
         """The editor of a number from 1 to 255.
@@ -311,4 +340,4 @@ class Store(Editor):
         ...     store.layers()
         [Layer(name='wells', kind='any')]
         """
-        return Editor(self._program, f"@{editor_number(number)} ")
+        return Editor(self._program, f"@{editor_number(number)} ", self._look)

@@ -14,9 +14,10 @@ from decimal import Decimal
 from typing import BinaryIO, NamedTuple, cast, overload
 
 from sfstore import files, values
-from sfstore.language import PREDICATES
+from sfstore.language import DISTANCE_LIMIT, DISTANCE_PLACES, PREDICATES
 from sfstore.refusals import BAD_FIELDS
-from sfstore.results import RULE_BROKEN, AnyRule, Demand, Rule, RuleForm, Value, ValueRule
+from sfstore.results import RULE_BROKEN, Value
+from sfstore.rules import AnyRule, Demand, Rule, RuleForm, ValueRule, near_asked
 
 __all__ = [
     "BOOL",
@@ -45,7 +46,8 @@ _VERSIONS = {b"SFSTORE1": 1, b"SFSTORE2": 2, b"SFSTORE3": 3, b"SFSTORE4": 4}
 # What the file of each version begins with.
 _ANY_MAGIC = b"SFSTORE"
 _FORMS: dict[int, RuleForm] = {1: "never", 2: "each"}
-_DEMANDS: dict[int, Demand] = {3: "unique", 4: "required"}
+_NEAR_FORMS: dict[int, RuleForm] = {7: "never", 8: "each"}
+_DEMANDS: dict[int, Demand] = {3: "unique", 4: "required", 5: "one-of", 6: "range"}
 
 
 def is_store(path: str) -> bool:
@@ -339,22 +341,48 @@ class _Reader:
         self._number("I", "identifier of a feature")
         self._bytes(self._number("I", "length of a geometry"), "geometry")
         for _ in range(self._number("H", "number of values")):
-            kind = types[self._number("H", "column number of a value")]
-            if kind == TEXT:
-                self._text("H", _VALUE_NAMES[kind])
-            else:
-                self._bytes(_WIDTHS[kind], _VALUE_NAMES[kind])
+            self._skip_value(types[self._number("H", "column number of a value")])
+
+    def _skip_value(self, kind: int) -> None:
+        """Reads beyond a value of a type."""
+        if kind == TEXT:
+            self._text("H", _VALUE_NAMES[kind])
+        else:
+            self._bytes(_WIDTHS[kind], _VALUE_NAMES[kind])
 
     def _rule(self, version: int) -> AnyRule:
         name = self._text("B", "name of a rule")
         byte = self._number("B", "form of a rule")
         if byte in _DEMANDS and version > 3:
-            return ValueRule(name, _DEMANDS[byte], self._text("B", "layer of a rule"), self._text("B", "column of a rule"))
-        form = _FORMS.get(byte)
+            return self._value_rule(name, _DEMANDS[byte])
+        forms, asked = (_NEAR_FORMS, self._near) if byte in _NEAR_FORMS and version > 3 else (_FORMS, self._ask)
+        form = forms.get(byte)
         if form is None:
             raise ValueError("the form of a rule is none")
         layer = self._text("B", "layer of a rule")
-        return Rule(name, form, layer, self._ask(), self._text("B", "layer of a rule"))
+        return Rule(name, form, layer, asked(), self._text("B", "layer of a rule"))
+
+    def _value_rule(self, name: str, demand: Demand) -> ValueRule:
+        layer, column = self._text("B", "layer of a rule"), self._text("B", "column of a rule")
+        if demand == "one-of":
+            count = self._number("H", "number of values of a rule")
+            return ValueRule(name, demand, layer, column, tuple(self._named_value() for _ in range(count)))
+        if demand == "range":
+            ends = self._number("B", "ends of a rule")
+            if not 0 < ends < 4:
+                raise ValueError("the ends of a rule are none")
+            least, greatest = (self._named_value() if ends & bit else None for bit in (1, 2))
+            return ValueRule(name, demand, layer, column, (), least, greatest)
+        return ValueRule(name, demand, layer, column)
+
+    def _named_value(self) -> Value:
+        """A value that a rule names, behind the byte of its type."""
+        kind = self._number("B", "type of a value of a rule")
+        if kind not in _VALUE_NAMES:
+            raise ValueError("the type of a value of a rule is none")
+        at = self._at
+        self._skip_value(kind)
+        return _value_at(self._data, at, kind)
 
     def _ask(self) -> str:
         """What a rule asks: the number of a predicate, or 0 and a pattern."""
@@ -364,6 +392,13 @@ class _Reader:
         if number > len(PREDICATES):
             raise ValueError("a rule asks what is no predicate")
         return PREDICATES[number - 1]
+
+    def _near(self) -> str:
+        """What a rule by a distance asks, as rows of ``rules`` have it."""
+        thousandths = self._number("Q", "distance of a rule")
+        if thousandths >= DISTANCE_LIMIT * 10**DISTANCE_PLACES:
+            raise ValueError("the distance of a rule is none")
+        return near_asked(Decimal(thousandths).scaleb(-DISTANCE_PLACES))
 
     def _begin(self, name: str) -> None:
         self.last = name

@@ -14,7 +14,7 @@ from decimal import Decimal
 from sfstore.language import INT_MAX, INT_MIN, PLACES_MAX
 from sfstore.results import ColumnType, Value
 
-__all__ = ["in_utc", "mantissa_and_places", "of_mantissa", "read", "spelled"]
+__all__ = ["in_utc", "mantissa_and_places", "of_mantissa", "of_text", "read", "spelled"]
 
 _DIGITS_MAX = len(str(INT_MAX))
 _SHOWN_MAX = 40
@@ -72,7 +72,28 @@ def read(text: str, column_type: ColumnType) -> Value:
     return int(text)
 
 
+def of_text(text: str) -> Value:
+    """The value that a text spells, whatever column it is for: a whole number is an `int`. `ValueError` where it spells none.
+
+    >>> of_text("12"), of_text("2024-02-29"), of_text("'true'"), of_text("0.5")
+    (12, datetime.date(2024, 2, 29), 'true', Decimal('0.5'))
+    """
+    for column_type, form in _FORMS.items():
+        if form.fullmatch(text):
+            return read(text, column_type)
+    raise ValueError(f"{text!r} is no value")
+
+
 _BOOLS = {"false": False, "true": True}
+# What a text looks like that spells a value of a type.
+_FORMS: dict[ColumnType, re.Pattern[str]] = {
+    "text": re.compile("E?'[^']*(?:''[^']*)*'"),
+    "int": re.compile("[-+]?[0-9]+"),
+    "decimal": re.compile(r"[-+]?[0-9]+\.[0-9]+"),
+    "bool": re.compile("true|false"),
+    "date": re.compile("[0-9]{4}-[0-9]{2}-[0-9]{2}"),
+    "datetime": re.compile(r"[0-9]{4}-[0-9]{2}-[0-9]{2}T[0-9]{2}:[0-9]{2}:[0-9]{2}(?:\.[0-9]{3})?Z"),
+}
 
 
 def _spelled_text(text: str) -> str:

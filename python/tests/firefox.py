@@ -2,6 +2,7 @@
 
 from __future__ import annotations
 
+import base64
 import json
 import shutil
 import socket
@@ -25,6 +26,16 @@ user_pref("network.captive-portal-service.enabled", false);
 user_pref("network.connectivity-service.enabled", false);
 """
 START_SECONDS = 60
+
+
+def awaited(is_so, words, seconds):
+    """Waits until something is so, and gives it. `AssertionError` where it does not come."""
+    end = time.monotonic() + seconds
+    while not (found := is_so()):
+        if time.monotonic() > end:
+            raise AssertionError(f"it did not come: {words}")
+        time.sleep(0.05)
+    return found
 
 
 class Firefox:
@@ -76,12 +87,7 @@ class Firefox:
 
     def until(self, text, *words, seconds=20):
         """Waits until what a script gives is true, and gives it."""
-        end = time.monotonic() + seconds
-        while not (found := self.script(f"return {text}", *words)):
-            if time.monotonic() > end:
-                raise AssertionError(f"it did not come: {text}")
-            time.sleep(0.05)
-        return found
+        return awaited(lambda: self.script(f"return {text}", *words), text, seconds)
 
     def element(self, selector):
         return next(iter(self.command("WebDriver:FindElement", using="css selector", value=selector).values()))
@@ -91,6 +97,23 @@ class Firefox:
 
     def type(self, selector, text):
         self.command("WebDriver:ElementSendKeys", id=self.element(selector), text=text)
+
+    def keys(self, *keys):
+        """Presses keys at once, where the focus is."""
+        presses = [{"type": "keyDown", "value": key} for key in keys] + [{"type": "keyUp", "value": key} for key in reversed(keys)]
+        self.command("WebDriver:PerformActions", actions=[{"type": "key", "id": "keys", "actions": presses}])
+
+    def point(self, x, y):
+        """Clicks a pixel of the page."""
+        clicks = [{"type": "pointerMove", "x": x, "y": y}, {"type": "pointerDown", "button": 0}, {"type": "pointerUp", "button": 0}]
+        self.command("WebDriver:PerformActions", actions=[{"type": "pointer", "id": "mouse", "actions": clicks}])
+
+    def picture(self):
+        return base64.b64decode(self.command("WebDriver:TakeScreenshot", full=False))
+
+    def pdf(self):
+        """What the browser prints, in base 64."""
+        return self.command("WebDriver:Print", orientation="landscape")
 
     def close(self):
         self.connection.close()

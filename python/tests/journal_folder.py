@@ -15,7 +15,7 @@ from sfstore import JournalError, ProgramEnded, Refused, files, sidecar
 
 # What stands in the folder beside the store, and is the user's.
 USERS = ["town.sfs.new", "town.sfs.part", "town.sfs.journal.new", "town.sfs.json.part", "notes.txt"]
-OWN = ["town.sfs", "town.sfs.journal", "town.sfs.lock", "town.sfs.json", "copy.sfs"]
+OWN = ["town.sfs", "town.sfs.journal", "town.sfs.lock", "town.sfs.json", "copy.sfs", "copy.sfs.lock"]
 # What the program makes beside, and of which it takes the place.
 BESIDE = [".town.sfs.sfstore-store", ".town.sfs.sfstore-journal"]
 LASTING = ["town.sfs", "town.sfs.journal", "town.sfs.json", *BESIDE]

@@ -214,7 +214,8 @@ class Run(Others):
         """kill -9 of the program between two calls; the next line is not answered."""
         if self.store is not None:
             os.kill(self.store._program._program._process.pid, signal.SIGKILL)
-            with contextlib.suppress(ProgramEnded):
+            # Where another program has written the file nothing is sent.
+            with contextlib.suppress(ProgramEnded, *([JournalError] if self.foreign is not None else [])):
                 self.store.run("layer add w point")
                 raise Violation("a program that was killed has answered")
             self._drop()

@@ -2,6 +2,7 @@
 
 from __future__ import annotations
 
+import base64
 import html
 import os
 import random
@@ -10,36 +11,60 @@ import signal
 import time
 import unittest
 from functools import partial
+from pathlib import Path
 from unittest import mock
 
 from qgis.core import (
     Qgis,
+    QgsCategorizedSymbolRenderer,
     QgsCoordinateReferenceSystem,
     QgsCoordinateTransform,
+    QgsEditFormConfig,
+    QgsEditorWidgetSetup,
     QgsFeature,
     QgsFeatureRequest,
     QgsField,
+    QgsFieldConstraints,
+    QgsFillSymbol,
     QgsGeometry,
+    QgsGraduatedSymbolRenderer,
+    QgsInvertedPolygonRenderer,
     QgsLineString,
+    QgsPalLayerSettings,
     QgsPoint,
     QgsPointXY,
     QgsProject,
     QgsRectangle,
+    QgsRendererCategory,
+    QgsRendererRange,
+    QgsRuleBasedLabeling,
+    QgsSingleSymbolRenderer,
+    QgsSvgMarkerSymbolLayer,
     QgsVectorLayer,
+    QgsVectorLayerSimpleLabeling,
     QgsVectorLayerUtils,
 )
-from qgis.gui import QgsAttributeEditorContext, QgsAttributeForm, QgsGui
+from qgis.gui import QgsAttributeDialog, QgsAttributeEditorContext, QgsAttributeForm, QgsGui
 from qgis.PyQt.QtCore import NULL, QDate, QDateTime, Qt, QTime, QVariant
-from qgis.PyQt.QtWidgets import QApplication, QLineEdit, QMessageBox, QPushButton, QTextBrowser
+from qgis.PyQt.QtGui import QColor
+from qgis.PyQt.QtWidgets import QApplication, QComboBox, QLineEdit, QMessageBox, QPushButton, QTextBrowser, QWidget
 from qgis_support import CROSSED, SQUARE, Plugin, QgisCase, Session, at_work
 
+from support import PROGRAM
+
+from sfstore_qgis import styles
+from sfstore_qgis.bar import ICONS
 from sfstore_qgis.fields import Places
 from sfstore_qgis.reading import rows_of
+from sfstore_qgis.session import Refusal, Style
+from sfstore_qgis.words import SAID, words_of
 
+from sfstore import Store
 from sfstore.exchange.grid import Grid
 from sfstore.language import COLUMN_TYPES, GRID_MAX, GRID_MIN, TEXT_MAX
+from sfstore.refusals import REFUSALS
 from sfstore.rows import feature_of
-from sfstore.web.client import CallFailed, Client
+from sfstore.web.client import CallFailed, Client, ServerGone
 
 
 FINE = "POLYGON ((0 0, 1000 0, 1000 1001, 3 1003, 0 0))"
@@ -172,6 +197,30 @@ class Opening(QgisCase):
         self.assertEqual(feature.geometry().asWkt(), "Point (2 2)")
 
 
+class Shown(QgisCase):
+    """The plugin's actions in QGIS' window."""
+
+    def test_each_action_has_an_icon_that_can_be_drawn_and_each_icon_is_used(self):
+        drawn = {}
+        for action in self.plugin.bar.actions:
+            picture = action.icon().pixmap(24, 24).toImage()
+            self.assertFalse(picture.isNull(), action.text())
+            drawn[action.text()] = bytes(picture.constBits().asarray(picture.byteCount()))
+        styling = {drawn.pop(text) for text in ("Keep the style with the store", "Show the store's style", "Drop the store's style")}
+        self.assertEqual(len(styling), 1)
+        # No two actions beside one another look alike. The plugin itself has one more.
+        self.assertEqual(len(set(drawn.values()) | styling), len(drawn) + 1)
+        self.assertEqual(len(list(ICONS.glob("*.svg"))), len(drawn) + 2)
+
+    def test_actions_stand_in_the_menu_of_plugins_too_until_the_plugin_goes(self):
+        self.assertEqual(self.window.listed, [action.text() for action in self.plugin.bar.actions])
+        self.assertEqual((len(self.window.listed), self.window.listed[0]), (12, "Open a store .."))
+        self.plugin.unload()
+        self.assertEqual(self.window.listed, [])
+        self.plugin = Plugin(self.window)
+        self.plugin.initGui()
+
+
 class Commits(QgisCase):
     """Edits in QGIS' buffer, and commits of it."""
 
@@ -203,8 +252,8 @@ class Commits(QgisCase):
         self.assertFalse(parcels.commitChanges())
         self.turn()
         said = " ".join(self.said())
-        place = "edges 0 and 2 of ring 0 meet at (500523.3333 5600053.333)"
-        self.assertIn(f"parcels: Refused (13 RingNotSimple): a ring meets itself, {place}. Move or remove", said)
+        words = "Move or remove a corner: the border meets itself at (500523.33 5600053.33). (parcels, 13 RingNotSimple)"
+        self.assertIn(words, said)
         self.assertEqual(len(self.plugin.teller._markers), 2)
         self.assertEqual(len(parcels.editBuffer().addedFeatures()), 1)
         self.assertEqual(parcels.editBuffer().deletedFeatureIds(), [self.fid(3)])
@@ -232,7 +281,7 @@ class Commits(QgisCase):
         self.layer().startEditing()
         self.draw(CROSSED)
         self.turn()
-        self.assertIn("parcels, not sent yet: Refused (13 RingNotSimple)", " ".join(self.said()))
+        self.assertIn("(parcels, not sent yet, 13 RingNotSimple)", " ".join(self.said()))
         self.assertEqual(len(self.plugin.teller._markers), 2)
         self.assertEqual(len(self.stored()), 200)
 
@@ -266,11 +315,11 @@ class Commits(QgisCase):
     def test_what_the_store_can_not_take_is_told_in_words(self):
         parcels = self.layer()
         for wkt, words in (
-            ("POLYGON((9e9 0, 9e9 1, 8e9 1, 9e9 0))", "further from the origin"),
-            ("CURVEPOLYGON(CIRCULARSTRING(0 0, 1 1, 2 0, 1 -1, 0 0))", "a curve or surface"),
+            ("POLYGON((9e9 0, 9e9 1, 8e9 1, 9e9 0))", "Draw it nearer to the map: "),
+            ("CURVEPOLYGON(CIRCULARSTRING(0 0, 1 1, 2 0, 1 -1, 0 0))", "Draw it with straight sides, in x and y alone: the store takes no other geometry, and this is a curve"),
             ("MULTIPOLYGON(((500510 5600000, 500540 5600000, 500540 5600030, 500510 5600000)), "
-             "((500610 5600000, 500640 5600000, 500640 5600030, 500610 5600000)))", "26 WrongKind"),
-            ("", "without a geometry"),
+             "((500610 5600000, 500640 5600000, 500640 5600030, 500610 5600000)))", "take its parts apart: this layer takes no geometry of this kind. (parcels, 26 WrongKind)"),
+            ("", "Draw one: a feature without a geometry has no place in the store. (parcels)"),
         ):
             with self.subTest(wkt=wkt[:20]):
                 parcels.startEditing()
@@ -457,7 +506,7 @@ class FineGrids(QgisCase):
         corner = self.feature(1).geometry().vertexAt(2)
         parcels.moveVertex(corner.x() + 1e-7, corner.y(), self.fid(1), 2)
         self.assertFalse(parcels.commitChanges())
-        self.assertIn("the step of the grid is finer than QGIS' doubles are there", " ".join([*self.said(), *parcels.commitErrors()]))
+        self.assertIn("Edit it on the page: the step of the grid is finer than QGIS' numbers are there", " ".join([*self.said(), *parcels.commitErrors()]))
         parcels.rollBack()
         parcels.startEditing()
         self.set(1, "owner", "Ann's")
@@ -528,7 +577,7 @@ class Columns(QgisCase):
         self.assertEqual(len(QgsProject.instance().mapLayers()), 3)
         self.plugin.move("undo")
         self.settle()
-        self.assertIn("New in the store: trees", " ".join(self.said()))
+        self.assertIn("Open the store again to show what is new: trees.", self.said())
         self.plugin.open(str(self.path))
         self.assertEqual(self.layer("trees").featureCount(), 1)
         self.assert_alike()
@@ -538,7 +587,7 @@ class Columns(QgisCase):
         parcels.startEditing()
         self.set(2, "owner", "not sent")
         self.plugin.drop_layer(self.plugin.editings[parcels.id()])
-        self.assertIn("parcels has edits that the store has not: save them, or take them back first.", self.said())
+        self.assertIn("Save your edits of parcels, or take them back first: the store does not have them yet.", self.said())
         self.assertEqual((len(self.session.layers()), self.feature(2)["owner"]), (3, "not sent"))
         self.assertTrue(parcels.commitChanges(), parcels.commitErrors())
         self.plugin.drop_layer(self.plugin.editings[parcels.id()])
@@ -562,7 +611,7 @@ class Columns(QgisCase):
     def test_a_layer_that_another_one_drops_and_brings_back(self):
         ben = self.ben()
         self.bens(ben, "layer drop wells")
-        self.assertIn("Not in the store any more: wells", " ".join(self.said()))
+        self.assertIn("the store has no wells any more.", " ".join(self.said()))
         wells = self.layer("wells")
         self.assertEqual(wells.featureCount(), 0)
         wells.startEditing()
@@ -572,6 +621,19 @@ class Columns(QgisCase):
         ben.call("line", page="ben", line="undo")
         self.settle()
         self.assertEqual(wells.featureCount(), 4)
+        self.assert_alike()
+
+
+    def test_a_layer_that_another_one_renames(self):
+        ben = self.ben()
+        for line, names in (("layer rename wells springs", "wells to springs"), ("layer rename springs wells", ""), ("undo", "wells to springs"), ("undo", "")):
+            ben.call("line", page="ben", line=line)
+            self.settle()
+            said = " ".join(self.said())
+            self.assertEqual("renamed" in said, bool(names), said)
+            self.assertNotIn("any more", said)
+            if names:
+                self.assertIn(f"Open the store again to show it under its new name, and remove the old one: Ben has renamed {names}.", said)
         self.assert_alike()
 
 
@@ -659,7 +721,9 @@ class Types(QgisCase):
         values = {"int": 7, "text": "x", "decimal": "8.50", "bool": True, "date": QDate(2024, 2, 29)}
         values["datetime"] = QDateTime(QDate(2024, 2, 29), QTime(1, 2, 3), Qt.UTC)
         for kind, value in values.items():
+            self.set(2, f"n_{kind}", NULL)
             self.set(2, f"n_{kind}", value)
+        self.set(3, "n_text", NULL)
         self.draw(SQUARE, number=9001, **{f"n_{kind}": value for kind, value in values.items()})
         self.assertTrue(parcels.commitChanges(), parcels.commitErrors())
         told = " n_int=7 n_text='x' n_decimal=8.5 n_bool=true n_date=2024-02-29 n_datetime=2024-02-29T01:02:03.000Z"
@@ -678,14 +742,14 @@ class Types(QgisCase):
         self.assertFalse(is_added and parcels.commitChanges())
         parcels.rollBack()
         self.assertFalse(parcels.dataProvider().addAttributes([QgsField("size", QVariant.Double, "double")]))
-        self.assertIn("size: the store has no columns of this type", " ".join(parcels.dataProvider().errors()))
+        self.assertIn("Take another type for size: the store has no columns of this one", " ".join(parcels.dataProvider().errors()))
 
     def test_forms_have_a_widget_that_keeps_the_value(self):
         widgets = QgsGui.editorWidgetRegistry()
         widgets.initEditors()
         parcels = self.layer()
         best = [widgets.findBest(parcels, f"c_{kind}").type() for kind in COLUMN_TYPES]
-        self.assertEqual(best[1:], ["TextEdit", "TextEdit", "CheckBox", "DateTime", "TextEdit"])
+        self.assertEqual(best[1:], ["TextEdit", "TextEdit", "ValueMap", "DateTime", "TextEdit"])
         text, field = "a\r\nb\rc\n\t\x1b", QLineEdit()
         wrapper = widgets.create("TextEdit", parcels, parcels.fields().indexOf("c_text"), {}, field, None)
         self.assertIn(r" c_text=E'a\r\nb\rc\n\t\x1b'", self.saved("c_text", text))
@@ -759,7 +823,7 @@ class Identifiers(QgisCase):
             self.set(2, "owner", "x")
             self.assertFalse(parcels.commitChanges(), value)
             self.turn()
-            self.assertIn(f"_id can't be set to {value}: it is the store that numbers features", " ".join(self.said()))
+            self.assertIn(f"Leave _id as it is: the store numbers features, and it can't be set to {value}", " ".join(self.said()))
             parcels.rollBack()
         self.assertFalse(parcels.dataProvider().changeAttributeValues({self.fid(3): {0: 9999}}))
         self.assertEqual(self.stored(), before)
@@ -776,7 +840,7 @@ class Identifiers(QgisCase):
         self.draw(SQUARE, _id=4242)
         self.assertFalse(parcels.commitChanges())
         self.turn()
-        self.assertIn("_id can't be set to 4242", " ".join(self.said()))
+        self.assertIn("it can't be set to 4242", " ".join(self.said()))
         parcels.rollBack()
         self.assertEqual(len(self.stored()), 6)
         parcels.startEditing()
@@ -1027,7 +1091,7 @@ class FieldsOfOne(QgisCase):
         for layer in (parcels, twice):
             self.assertFalse(layer.commitChanges())
             self.turn()
-            self.assertIn("is edited in another layer of the project too", " ".join(self.said()))
+            self.assertIn("Save the other layer of parcels first, or give its edits up: the fields of one that is edited in another layer", " ".join(self.said()))
             self.assertFalse(layer.dataProvider().addAttributes([TEXT]))
         self.assertEqual((len(self.stored()), len(self.session.columns("parcels"))), (6, 2))
         parcels.rollBack()
@@ -1049,8 +1113,7 @@ class FieldsOfOne(QgisCase):
         self.plugin.editings[parcels.id()].provider.mirror.memory.deleteAttributes([1])
         self.bens(ben, "set parcels 3 owner 'Ben''s'")
         said = " ".join(self.said())
-        self.assertIn("parcels: it has the fields _id (int), owner (text), and the columns are number", said)
-        self.assertIn("Edits that were not sent are given up.", said)
+        self.assertIn("Look at parcels again, and do anew what was not sent, which is given up: it has the fields _id (int), owner (text), and the columns are number", said)
         self.assertFalse(parcels.isEditable())
         self.assertEqual(self.feature(3)["owner"], "Ben's")
         self.assert_alike()
@@ -1069,7 +1132,9 @@ class FieldsOfOne(QgisCase):
         self.plugin.editings[parcels.id()].provider.mirror.drop_columns(["number"])
         self.assertFalse(parcels.commitChanges())
         self.turn()
-        self.assertIn("parcels: it has the fields _id, number, owner, and ought to have _id, owner", " ".join(self.said()))
+        said = " ".join(self.said())
+        self.assertIn("Look again: it has the fields _id, number, owner, and ought to have _id, owner. (parcels)", said)
+        self.assertIn("Look at parcels again, and do anew what was not sent, which is given up: its fields were others", said)
         self.assertEqual(self.stored(), before)
         self.settle()
         self.assertEqual(sorted(parcels.fields().names()), ["_id", "number", "owner"])
@@ -1099,7 +1164,7 @@ class AnyKind(QgisCase):
         ben = self.ben()
         self.said()
         self.bens(ben, "add m MULTILINESTRING ((0 0, 1 1), (2 2, 3 3))")
-        self.assertEqual(self.said(), ["m has a multilinestring now, which is not shown. Open the store again to show it."])
+        self.assertEqual(self.said(), ["Open the store again to show it: m has a multilinestring now."])
         self.plugin.open(str(self.path))
         self.assertEqual(self.layer("m (multilinestring)").featureCount(), 1)
         self.bens(ben, "add m POINT (7 7)", "replace m 1 LINESTRING (0 0, 1 1)")
@@ -1108,10 +1173,499 @@ class AnyKind(QgisCase):
         self.assert_alike()
 
 
+def labels_by_rule():
+    """Labels by an expression, of some features alone."""
+    settings = QgsPalLayerSettings()
+    settings.fieldName, settings.isExpression = "\"owner\" || ' <' || \"number\"", True
+    rules = QgsRuleBasedLabeling.Rule(None)
+    rules.appendChild(QgsRuleBasedLabeling.Rule(settings, 0, 0, '"number" < 1100'))
+    return QgsRuleBasedLabeling(rules)
+
+
+class StylesKept(QgisCase):
+    """How layers look, kept with the store."""
+
+    def style(self, color="#12ab34", label="owner"):
+        """Gives the parcels a colour, labels, an opacity and scales, as their properties do."""
+        parcels = self.layer()
+        parcels.renderer().symbol().setColor(QColor(color))
+        settings = QgsPalLayerSettings()
+        settings.fieldName = label
+        parcels.setLabeling(QgsVectorLayerSimpleLabeling(settings))
+        parcels.setLabelsEnabled(True)
+        parcels.setOpacity(0.5)
+        parcels.setScaleBasedVisibility(True)
+        parcels.setMinimumScale(5_000)
+        return parcels
+
+    def look(self, layer=None):
+        """Colour, labels, opacity and the smallest scale of a layer."""
+        layer = layer or self.layer()
+        label = layer.labeling().settings().fieldName if layer.labelsEnabled() else ""
+        return layer.renderer().symbol().color().name(), label, layer.opacity(), layer.minimumScale()
+
+    def open_again(self):
+        """Opens the store as another QGIS does."""
+        QgsProject.instance().clear()
+        self.turn(0.1)
+        self.said()
+        self.plugin.open(str(self.path))
+        self.session = Session.of(str(self.path))
+
+    def kept(self, layer="parcels", kind=""):
+        return self.session.call("qml", layer=layer, kind=kind)
+
+    def use(self, text):
+        """Uses an action of the plugin on the parcels, and gives what is said."""
+        self.window.make_active(self.layer())
+        self.said()
+        [action] = [each for each in self.plugin.bar.actions if each.text() == text]
+        action.trigger()
+        return " ".join(self.said())
+
+    def bens(self, color):
+        """Has Ben save a style of another colour."""
+        ben, seen = self.ben(), self.kept()
+        qml = re.sub(r'"[0-9]+,[0-9]+,[0-9]+,255"', f'"{color},255"', seen["qml"])
+        self.assertNotEqual(qml, seen["qml"])
+        ben.call("save-qml", layer="parcels", qml=qml, seen=seen["mark"])
+        self.wait_for(lambda: self.session.style("parcels", "").by == "Ben")
+        self.turn(0.2)
+
+    def test_who_opens_the_store_sees_it(self):
+        parcels = self.style()
+        forms = parcels.editFormConfig()
+        forms.setInitCodeSource(QgsEditFormConfig.CodeSourceDialog)
+        forms.setInitCode("import os")
+        parcels.setEditFormConfig(forms)
+        before = self.look()
+        self.assertIn("The style of parcels is kept with the store", self.use("Keep the style with the store"))
+        self.assertEqual(self.kept()["by"], "Ann")
+        self.assertNotIn("import os", self.kept()["qml"])
+        self.open_again()
+        self.assertEqual(self.look(), before)
+        self.assertEqual(before, ("#12ab34", "owner", 0.5, 5_000))
+        self.assertEqual(self.layer().editFormConfig().initCode(), "")
+        self.assertNotIn("style", " ".join(self.said()))
+        # The page has its own.
+        self.assertEqual(self.session.call("styles")["styles"], {})
+        self.assertIn("any more", self.use("Drop the store's style"))
+        self.assertEqual((self.kept()["qml"], self.look()), (None, before))
+        self.open_again()
+        self.assertNotEqual(self.look(), before)
+        self.assertIn("Save one first: the store has no style for parcels.", self.use("Show the store's style"))
+
+    def test_of_a_layer_of_any_kind_each_kind_has_its_own(self):
+        self.session.line("layer add sketches any")
+        self.plugin.open(str(self.path))
+        points = self.layer("sketches (point)")
+        points.renderer().symbol().setColor(QColor("#aa0000"))
+        self.window.make_active(points)
+        self.plugin.keep_style()
+        self.assertIsNone(self.kept("sketches", "polygon")["qml"])
+        self.open_again()
+        self.assertEqual(self.layer("sketches (point)").renderer().symbol().color().name(), "#aa0000")
+
+    def test_anothers_style_is_shown_where_ones_own_was_not_changed(self):
+        self.style()
+        self.use("Keep the style with the store")
+        self.bens("1,2,3")
+        self.assertEqual(self.look()[0], "#010203")
+        self.assertIn("parcels looks as Ben has saved it just now.", self.said())
+        self.layer().renderer().symbol().setColor(QColor("#ffff00"))
+        self.bens("7,8,9")
+        self.assertEqual(self.look()[0], "#ffff00")
+        self.assertIn("Show the store's style to see it: Ben has saved another style for parcels. Yours stays until then.", self.said())
+        self.assertIn("parcels looks as Ben has saved it.", self.use("Show the store's style"))
+        self.assertEqual(self.look()[0], "#070809")
+        self.ben().call("save-qml", layer="parcels", qml=None, seen=self.kept()["mark"])
+        self.wait_for(lambda: "Ben has taken the style for parcels out of the store. It stays here." in self.said())
+        self.assertEqual(self.look()[0], "#070809")
+
+    def test_a_style_whose_layer_gets_another_name_is_not_said_to_be_gone(self):
+        """It goes with its layer. What is heard of it here is heard behind the renaming."""
+        self.style()
+        self.use("Keep the style with the store")
+        ben, seen = self.ben(), self.kept()
+        ben.call("save-qml", layer="parcels", qml=seen["qml"].replace("owner", "number"), seen=seen["mark"])
+        ben.call("line", page="ben", line="layer rename parcels plots")
+        self.wait_for(lambda: self.session.style("plots", "").by == "Ben")
+        self.settle()
+        said = " ".join(self.said())
+        self.assertIn("Ben has renamed parcels to plots.", said)
+        self.assertNotIn("style", said)
+        self.assertIn("Open the store again: it has no parcels any more.", self.use("Show the store's style"))
+
+    def test_whose_styles_gave_way_is_said(self):
+        with mock.patch.object(type(self.session), "save_style", lambda *_: ("mark", ["wells", "streets"])):
+            said = self.use("Keep the style with the store")
+        words = "Keep a style anew if an undo brings wells, streets back: there was no room for styles of layers that were dropped."
+        self.assertIn(words, said)
+
+    def test_nobody_saves_over_what_they_have_not_seen(self):
+        self.style()
+        self.use("Keep the style with the store")
+        self.style("#ffff00")
+        self.bens("1,2,3")
+        said = self.use("Keep the style with the store")
+        self.assertIn("Show the store's style first, or do it once more to put yours in its place: Ben has saved another", said)
+        self.assertEqual(self.kept()["by"], "Ben")
+        self.assertIn("is kept with the store", self.use("Keep the style with the store"))
+        self.assertEqual(self.kept()["by"], "Ann")
+        self.assertEqual(self.look()[0], "#ffff00")
+
+    def test_a_project_keeps_its_own_and_that_is_told(self):
+        self.style()
+        self.use("Keep the style with the store")
+        file = str(self.folder / "town.qgs")
+        for color, words in (("", ""), ("1,2,3", "parcels looks as your project has it, and the store has another style.")):
+            self.layer().renderer().symbol().setColor(QColor("#00ff00"))
+            self.assertTrue(QgsProject.instance().write(file))
+            if color:
+                self.bens(color)
+            QgsProject.instance().clear()
+            self.turn(0.1)
+            self.said()
+            self.assertTrue(QgsProject.instance().read(file))
+            self.session = Session.of(str(self.path))
+            self.assertEqual(self.look()[0], "#00ff00")
+            said = " ".join(each for each in self.said() if "style" in each)
+            self.assertTrue(said.endswith(words) and bool(said) == bool(words), said)
+
+    def test_what_leads_out_of_the_store_is_not_kept(self):
+        wells = self.layer("wells")
+        self.window.make_active(wells)
+        for path, words in (("http://evil.example/x.svg", "a file of yours"), ("/home/ann/well.svg", "embed it in the symbol")):
+            wells.renderer().symbol().changeSymbolLayer(0, QgsSvgMarkerSymbolLayer(path))
+            self.said()
+            self.plugin.tried(self.plugin.keep_style)
+            self.assertIn(words, " ".join(self.said()))
+        self.assertIsNone(self.kept("wells")["qml"])
+        drawn = base64.b64encode(b'<svg xmlns="http://www.w3.org/2000/svg" viewBox="0 0 9 9"><rect width="9" height="9"/></svg>').decode()
+        wells.renderer().symbol().changeSymbolLayer(0, QgsSvgMarkerSymbolLayer(f"base64:{drawn}"))
+        self.plugin.keep_style()
+        self.open_again()
+        self.assertEqual(self.layer("wells").renderer().symbol().symbolLayer(0).path(), f"base64:{drawn}")
+
+    def test_each_form_of_a_style_comes_back_as_it_was(self):
+        parcels = self.layer()
+        fill = QgsFillSymbol.createSimple
+        for renderer in (
+            QgsCategorizedSymbolRenderer("owner", [QgsRendererCategory("Dunn", fill({"color": "red"}), "D & <D>")]),
+            QgsGraduatedSymbolRenderer("number", [QgsRendererRange(0, 1100, fill({"color": "blue"}), "< 1100")]),
+            QgsInvertedPolygonRenderer(QgsSingleSymbolRenderer(fill({"color": "green"}))),
+        ):
+            kind = type(renderer)
+            parcels.setRenderer(renderer)
+            parcels.setLabeling(labels_by_rule())
+            parcels.setLabelsEnabled(True)
+            before = styles._look_of(parcels)
+            self.window.make_active(parcels)
+            self.plugin.keep_style()
+            self.open_again()
+            parcels = self.layer()
+            self.assertEqual(styles._look_of(parcels), before)
+            self.assertEqual(type(parcels.renderer()), kind)
+
+    def test_a_style_is_no_code_whoever_wrote_it(self):
+        code = "<editforminitcodesource>2</editforminitcodesource><editforminitcode>import os</editforminitcode>"
+        action = '<attributeactions><actionsetting id="{a}" type="1" name="x" action="import os" capture="0"/></attributeactions>'
+        hostile = f"<qgis><layerOpacity>0.25</layerOpacity>{code}{action}<mapTip>x</mapTip></qgis>"
+        with self.assertRaises(CallFailed):
+            self.ben().call("save-qml", layer="parcels", qml=hostile, seen=None)
+        # Where it came nevertheless.
+        self.plugin.styles._show(self.layer(), Style(hostile, "Eve", "x"))
+        parcels = self.layer()
+        self.assertEqual((parcels.opacity(), parcels.editFormConfig().initCode(), parcels.mapTipTemplate()), (0.25, "", ""))
+        self.assertEqual(parcels.actions().actions(), [])
+
+    def test_a_damaged_file_keeps_no_layer_away(self):
+        self.style()
+        self.use("Keep the style with the store")
+        self.server().kill()
+        self.server().wait()
+        Path(f"{self.path}.qgis").write_text("{")
+        self.wait_for(lambda: self.session.is_connected is False)
+        self.wait_for(lambda: self.session.is_connected)
+        self.open_again()
+        self.assertEqual(len(self.plugin.editings), 3)
+        self.assertEqual(len([each for each in self.said() if "town.sfs.qgis can't be read" in each]), 1)
+        self.assertIn("can't be read", self.use("Keep the style with the store"))
+        self.assertEqual(Path(f"{self.path}.qgis").read_text(), "{")
+
+
+class ValuesRuled(QgisCase):
+    """Rules on values: what a form offers, and what is said of an edit that would break one."""
+
+    lines = (
+        b"layer add w point\ncolumn add w use text\ncolumn add w depth int\ncolumn add w size decimal\ncolumn add w free int\n"
+        b"rule add uses one-of w use 'garden', 'it''s'\nrule add depths range w depth 0 to 900\n"
+        b"rule add sizes one-of w size 0.5, 2\nrule add deep range w free 5000000000 to\nadd w POINT (1 1)\nset w 1 use 'garden'\n"
+    )
+
+    def setups(self):
+        """What the fields of the layer are typed or chosen in: the type, and of a list its values."""
+        layer = self.layer("w")
+        setups = {field.name(): layer.editorWidgetSetup(at) for at, field in enumerate(layer.fields())}
+        return {name: (setup.type(), [next(iter(each)) for each in setup.config().get("map", [])]) for name, setup in setups.items()}
+
+    def test_a_form_offers_what_rules_allow(self):
+        setups = self.setups()
+        self.assertEqual(setups["use"], ("ValueMap", ["no value", "garden", "it's"]))
+        self.assertEqual(setups["size"], ("ValueMap", ["no value", "0.5", "2"]))
+        # A box of numbers would give the nearest one of its range back, whatever is there.
+        self.assertEqual((setups["depth"], setups["free"]), (("TextEdit", []), ("TextEdit", [])))
+        said = {field.name(): field.constraints() for field in self.layer("w").fields()}
+        self.assertEqual(said["depth"].constraintDescription(), "a rule wants from 0 to 900")
+        self.assertEqual(said["depth"].constraintExpression(), '"depth" IS NULL OR ("depth" >= 0 AND "depth" <= 900)')
+        self.assertEqual(said["free"].constraintDescription(), "a rule wants from 5000000000")
+        strengths = {each.constraintStrength(QgsFieldConstraints.ConstraintExpression) for each in (said["depth"], said["free"])}
+        self.assertEqual(strengths, {QgsFieldConstraints.ConstraintStrengthSoft})
+
+    def test_forms_follow_the_rules(self):
+        """Those of a layer that is open, and of a project that was saved with other ones."""
+        ben, project = self.ben(), str(self.folder / "town.qgs")
+        self.assertTrue(QgsProject.instance().write(project))
+        self.bens(ben, "rule drop uses", "rule add more one-of w use 'garden', 'road'", "rule drop depths")
+        wanted = ("ValueMap", ["no value", "garden", "road"])
+        self.assertEqual((self.setups()["use"], self.layer("w").fields().field("depth").constraints().constraintExpression()), (wanted, ""))
+        QgsProject.instance().clear()
+        self.turn()
+        self.assertTrue(QgsProject.instance().read(project))
+        self.turn()
+        self.session = Session.of(str(self.path))
+        self.assertEqual(self.setups()["use"], wanted)
+        self.bens(ben, "rule drop more", "rule add few one-of w depth 3, 4")
+        self.assertEqual((self.setups()["use"], self.setups()["depth"]), (("", []), ("ValueMap", ["no value", "3", "4"])))
+        self.bens(ben, "rule drop few")
+        self.assertEqual(self.setups()["depth"], ("TextEdit", []))
+
+    def test_what_somebody_has_chosen_for_a_field_stays(self):
+        layer = self.layer("w")
+        at = layer.fields().indexOf("use")
+        layer.setEditorWidgetSetup(at, QgsEditorWidgetSetup("TextEdit", {"IsMultiline": True}))
+        self.bens(self.ben(), "rule drop uses", "rule add more one-of w use 'garden', 'road'")
+        self.assertEqual((layer.editorWidgetSetup(at).type(), layer.editorWidgetSetup(at).config()), ("TextEdit", {"IsMultiline": True}))
+
+    def test_a_box_of_numbers_of_a_former_version_goes(self):
+        """It would give the nearest number of its range back. One that somebody has chosen has other words."""
+        layer = self.layer("w")
+        at = layer.fields().indexOf("depth")
+        former = {"Min": 0, "Max": 900, "Step": 1, "AllowNull": True, "Style": "SpinBox"}
+        for config, is_kept in ((former, False), ({**former, "Suffix": " m"}, True)):
+            layer.setEditorWidgetSetup(at, QgsEditorWidgetSetup("Range", config))
+            self.plugin.forget([layer.id()])
+            self.plugin.watch([layer])
+            self.assertEqual(layer.editorWidgetSetup(at).type() == "Range", is_kept)
+
+    def test_a_number_is_chosen_from_a_list(self):
+        ben, layer = self.ben(), self.layer("w")
+        self.bens(ben, "rule drop depths", "rule add depths one-of w depth 3, 12, 900")
+        form = self.form(1)
+        [chooser] = [each for each in form.findChildren(QComboBox) if each.isVisible() and each.findText("900") >= 0]
+        chooser.setCurrentIndex(chooser.findText("900"))
+        self.assertTrue(form.save())
+        self.assertTrue(layer.commitChanges(), layer.commitErrors())
+        self.assertEqual(self.stored("w")[1], "1 POINT (1 1) use='garden' depth=900")
+        self.assert_alike()
+
+    def form(self, number):
+        """The form of a feature, which is edited."""
+        QgsGui.editorWidgetRegistry().initEditors()
+        layer = self.layer("w")
+        layer.startEditing()
+        form = QgsAttributeForm(layer, self.feature(number, layer), QgsAttributeEditorContext())
+        form.show()
+        self.addCleanup(form.close)
+        self.turn()
+        return form
+
+    def test_a_form_changes_no_value_that_was_not_typed(self):
+        """Also where a value lies outside of the range that there was when the layer was opened."""
+        ben, layer = self.ben(), self.layer("w")
+        self.bens(ben, "rule drop depths", "set w 1 depth 5000")
+        form = self.form(1)
+        form.changeAttribute("use", "it's")
+        self.assertTrue(form.save())
+        self.assertTrue(layer.commitChanges(), layer.commitErrors())
+        self.assertEqual(self.stored("w")[1], "1 POINT (1 1) use='it''s' depth=5000")
+
+    def test_another_value_is_refused_in_words(self):
+        layer = self.layer("w")
+        layer.startEditing()
+        self.set(1, "use", "sea", layer)
+        self.assertFalse(layer.commitChanges())
+        self.turn()
+        wanted = "Choose one of the values that are allowed: w 1 would have another use than 'garden', 'it''s'. (w, rule uses, 37 RuleBroken)"
+        self.assertIn(wanted, " ".join(self.said()))
+        self.set(1, "use", "it's", layer)
+        self.set(1, "depth", 900, layer)
+        self.assertTrue(layer.commitChanges(), layer.commitErrors())
+        self.assertEqual(self.stored("w")[1], "1 POINT (1 1) use='it''s' depth=900")
+
+
+class Forms(QgisCase):
+    """A form gives all of its values back: those that nobody has typed stay as they are."""
+
+    lines = (
+        b"layer add w point\ncolumn add w owner text\ncolumn add w label text\ncolumn add w number int\ncolumn add w size decimal\n"
+        b"column add w day date\ncolumn add w time datetime\ncolumn add w open bool\nadd w POINT (1 1)\nadd w POINT (2 2)\n"
+        b"set w 2 label ''\nset w 2 number -9223372036854775808\nset w 2 size 0.000000000000000001\nset w 2 day 0001-01-01\n"
+        b"set w 2 time 9999-12-31T23:59:59.999Z\nset w 2 open false\nadd w POINT (3 3)\nset w 3 label 'NULL'\nset w 3 open true\n"
+    )
+
+    def form(self, feature, mode=QgsAttributeEditorContext.SingleEditMode):
+        """The form of a feature, which is edited."""
+        QgsGui.editorWidgetRegistry().initEditors()
+        form = QgsAttributeForm(self.layer("w"), feature, QgsAttributeEditorContext())
+        form.setMode(mode)
+        form.show()
+        self.addCleanup(form.close)
+        self.turn()
+        return form
+
+    def edited(self, number, **values):
+        """Types values in the form of a feature, and saves the layer. Whether that is done."""
+        layer = self.layer("w")
+        layer.startEditing()
+        form = self.form(self.feature(number, layer))
+        for name, value in values.items():
+            form.changeAttribute(name, value)
+        self.turn()
+        self.assertTrue(form.save())
+        form.close()
+        is_done = layer.commitChanges()
+        self.turn()
+        return is_done
+
+    def test_another_value_alone_is_changed(self):
+        before = self.stored("w")
+        for number in 1, 2:
+            self.assertTrue(self.edited(number, owner="Ann"))
+        wanted = {number: row.replace(")", ") owner='Ann'", 1) if number < 3 else row for number, row in before.items()}
+        self.assertEqual(self.stored("w"), wanted)
+        self.assert_alike()
+
+    def test_a_new_feature_has_what_was_typed(self):
+        layer = self.layer("w")
+        layer.startEditing()
+        drawn = QgsVectorLayerUtils.createFeature(layer, QgsGeometry.fromWkt("POINT (500000.5 5600000)"))
+        form = self.form(drawn, QgsAttributeEditorContext.AddFeatureMode)
+        form.changeAttribute("owner", "Ann")
+        self.assertTrue(form.save())
+        self.assertTrue(layer.commitChanges(), layer.commitErrors())
+        self.assertEqual(self.stored("w")[4], "4 POINT (5 0) owner='Ann'")
+
+    def test_a_truth_value_is_chosen(self):
+        for value, row in ((True, "open=true"), (False, "open=false"), (None, "")):
+            self.assertTrue(self.edited(1, open=value))
+            self.assertEqual(self.stored("w")[1], " ".join(filter(None, ["1 POINT (1 1)", row])))
+        self.assert_alike()
+
+    def typed(self, form, name, text):
+        """Types a text in the field of one line of a column."""
+        lines = [line for each in form.findChildren(QWidget, name) for line in (each, *each.findChildren(QLineEdit))]
+        [line] = {line for line in lines if isinstance(line, QLineEdit) and line.isVisible()}
+        form.activateWindow()
+        line.setFocus()
+        line.setText(text)
+        self.turn()
+
+    def test_what_qgis_can_t_read_clears_no_value(self):
+        """Its field of one line has no value for such a text: it is told, and not taken for a clearing."""
+        layer, before = self.layer("w"), self.stored("w")
+        for name, text in (("time", "29.02.2024"), ("time", "2024-13-45"), ("time", " 2024-02-29T12:30:00Z"), ("number", "-")):
+            layer.startEditing()
+            form = self.form(self.feature(2, layer))
+            self.typed(form, name, text)
+            self.assertTrue(form.save())
+            form.close()
+            self.turn()
+            self.assertFalse(layer.commitChanges(), text)
+            self.assertIn(f"can't read {text!r} in {name}", " ".join(layer.commitErrors()))
+            layer.rollBack()
+            self.turn()
+        self.assertEqual(self.stored("w"), before)
+        drawn = QgsVectorLayerUtils.createFeature(layer, QgsGeometry.fromWkt("POINT (500000.5 5600000)"))
+        layer.startEditing()
+        form = self.form(drawn, QgsAttributeEditorContext.AddFeatureMode)
+        self.typed(form, "time", "29.02.2024")
+        self.assertTrue(form.save())
+        form.close()
+        self.assertFalse(layer.commitChanges())
+        layer.rollBack()
+        self.assertEqual(self.stored("w"), before)
+        # Where there was no value, QGIS has no edit of it: it is told once the field is left.
+        layer.startEditing()
+        form = self.form(self.feature(1, layer))
+        self.typed(form, "time", "29.02.2024")
+        self.said()
+        form.close()
+        self.turn()
+        self.assertIn("Type it once more: QGIS can't read '29.02.2024' in time", " ".join(self.said()))
+        layer.rollBack()
+        # What is typed once more is taken, and so is a clearing.
+        for text, row in (("2024-02-29T12:30:00Z", "1 POINT (1 1) time=2024-02-29T12:30:00.000Z"), ("", "1 POINT (1 1)")):
+            layer.startEditing()
+            form = self.form(self.feature(1, layer))
+            for each in ("yesterday", text):
+                self.typed(form, "time", each)
+                self.assertTrue(form.save())
+            form.close()
+            self.assertTrue(layer.commitChanges(), layer.commitErrors())
+            self.turn()
+            self.assertEqual(self.stored("w")[1], row)
+        self.assert_alike()
+
+    def test_columns_that_came_since_are_typed_so_too(self):
+        """One's own, and somebody else's."""
+        layer = self.layer("w")
+        layer.startEditing()
+        layer.addAttribute(QgsField("mine", QVariant.Bool, "bool"))
+        self.assertTrue(layer.commitChanges(), layer.commitErrors())
+        self.bens(self.ben(), "column add w theirs bool")
+        widgets = [layer.editorWidgetSetup(layer.fields().indexOf(name)).type() for name in ("mine", "theirs")]
+        self.assertEqual(widgets, ["ValueMap", "ValueMap"])
+        before = self.stored("w")[1]
+        self.assertTrue(self.edited(1, owner="Ann"))
+        self.assertEqual(self.stored("w")[1], f"{before} owner='Ann'")
+
+    def test_a_text_that_reads_as_no_value_is_not_cleared(self):
+        """QGIS gives none back where it shows its word for none."""
+        self.assertFalse(self.edited(3, owner="Ann"))
+        self.assertEqual(self.stored("w")[3], "3 POINT (3 3) label='NULL' open=true")
+        wanted = "Change this feature at the console or on the page: label of w 3 is the text 'NULL', which QGIS takes for no value"
+        self.assertIn(wanted, " ".join(self.said()))
+        self.layer("w").rollBack()
+        self.assertTrue(self.edited(3, label="a"))
+        self.assertEqual(self.stored("w")[3], "3 POINT (3 3) label='a' open=true")
+
+    def test_a_long_text_is_not_cut_off(self):
+        """QGIS' field of one line keeps 32,767 units of UTF-16."""
+        ben = self.ben()
+        for text in "a" * 32_766 + "\U0001f600b", "\U0001f600" * 16_383 + "ab", "ab" * 32_767:
+            self.bens(ben, f"set w 1 label '{text}'")
+            before = self.stored("w")[1]
+            self.assertFalse(self.edited(1, owner="Ann"))
+            self.assertEqual(self.stored("w")[1], before)
+            self.assertIn(f"label of w 1 has {len(text):,} letters, of which QGIS' field keeps 32,767, so its forms", " ".join(self.said()))
+            self.layer("w").rollBack()
+        # What has room there is kept, and another text is one that was meant.
+        for text in "a" * 32_767, "\U0001f600" * 16_383:
+            self.bens(ben, f"set w 2 label '{text}'")
+            self.assertTrue(self.edited(2, owner=text[:1]))
+            self.assertIn(f" owner='{text[:1]}' label='{text}' ", self.stored("w")[2])
+        self.assertTrue(self.edited(1, label="short"))
+        self.assertEqual(self.stored("w")[1], "1 POINT (1 1) label='short'")
+
+
 class Ruled(QgisCase):
     """Rules between features, which an edit would break."""
 
-    APART = "a rule would be broken, apart (never parcels T******** parcels), by"
+    APART = (
+        "Switch on Avoid Overlap on Active Layer, or draw it beside the others: parcels 10 and 201 would overlap; "
+        "parcels 201 is the new one. (parcels, rule apart, 37 RuleBroken)"
+    )
 
     def setUp(self):
         super().setUp()
@@ -1131,7 +1685,7 @@ class Ruled(QgisCase):
         self.draw(self.feature(10).geometry().asWkt())
         self.assertFalse(parcels.commitChanges())
         text, [button] = self.shown()
-        self.assertIn(f"parcels: Refused (37 RuleBroken): {self.APART} parcels 10 and parcels 201 (new). ", text)
+        self.assertIn(self.APART, text)
         # The feature that is there, and the one that was drawn.
         self.assertEqual(len(self.plugin.teller._markers), 2)
         button.click()
@@ -1162,7 +1716,7 @@ class Ruled(QgisCase):
         self.set(1, "owner", "Changed")
         self.assertFalse(parcels.commitChanges())
         text, [button] = self.shown()
-        self.assertIn(f"parcels: Refused (37 RuleBroken): {self.APART} parcels 10 and parcels 201 (new). ", text)
+        self.assertIn(self.APART, text)
         self.assertEqual(len(parcels.editBuffer().addedFeatures()), 1)
         self.assertNotIn("Changed", self.stored()[1])
         # The feature may be gone when its button is pressed.
@@ -1174,6 +1728,17 @@ class Ruled(QgisCase):
         self.settle()
         self.assert_alike()
 
+    def test_a_border_that_is_moved_for_one_neighbour_alone(self):
+        parcels = self.layer()
+        parcels.startEditing()
+        # The corner of parcels 1 and 2 on the street, for parcel 1.
+        [at] = [at for at, point in enumerate(self.feature(1).geometry().vertices()) if (point.x(), point.y()) == (500018, 5600000)]
+        parcels.moveVertex(500020, 5600000, self.fid(1), at)
+        self.assertFalse(parcels.commitChanges())
+        wanted = "Switch on Topological Editing, so that a border moves for both neighbours: parcels 1 and 2 would overlap. (parcels, rule apart"
+        self.assertIn(wanted, self.shown()[0])
+        parcels.rollBack()
+
     def test_features_of_two_layers(self):
         self.bens(self.ben(), "delete wells 3", "rule add placed each wells within some parcels")
         wells = self.layer("wells")
@@ -1181,10 +1746,36 @@ class Ruled(QgisCase):
         self.draw("POINT(500300 5600210)", wells)
         self.assertFalse(wells.commitChanges())
         text, buttons = self.shown()
-        self.assertIn("a rule would be broken, placed (each wells within some parcels), by wells 5 (new). ", text)
+        wanted = "Draw it elsewhere, or first what it needs: wells 5 would lie within none of parcels; wells 5 is the new one."
+        self.assertIn(f"{wanted} (wells, rule placed, 37 RuleBroken)", text)
         # What was drawn is shown in red, and there is nothing else to see.
         self.assertEqual((buttons, len(self.plugin.teller._markers)), ([], 1))
         wells.rollBack()
+
+    def test_a_rule_by_a_distance_is_told_in_metres(self):
+        self.bens(self.ben(), "rule add spaced never wells near 25 wells", "rule add served each wells near 10000 some parcels")
+        wells = self.layer("wells")
+        for wkt, wanted, shown in (
+            (
+                "POINT(500046.5 5600017)",
+                "Draw one of them elsewhere: wells 1 and 5 would lie within 2.5 of one another; wells 5 is the new one. (wells, rule spaced, 37 RuleBroken)",
+                2,
+            ),
+            (
+                "POINT(510000 5600000)",
+                "Draw it elsewhere, or first what it needs: wells 5 would lie within 1000 of none of parcels; wells 5 is the new one. (wells, rule served",
+                1,
+            ),
+        ):
+            wells.startEditing()
+            self.draw(wkt, wells)
+            self.assertFalse(wells.commitChanges())
+            text, buttons = self.shown()
+            self.assertIn(wanted, text)
+            # A well that is there can be shown.
+            self.assertEqual((len(buttons), len(self.plugin.teller._markers)), (shown - 1, shown))
+            wells.rollBack()
+            self.window.messages.clearWidgets()
 
     def test_a_rule_of_what_is_there_alone(self):
         self.bens(self.ben(), "delete wells 3", "rule add placed each wells within some parcels")
@@ -1194,10 +1785,117 @@ class Ruled(QgisCase):
         parcels.deleteFeature(self.fid(within))
         self.assertFalse(parcels.commitChanges())
         text, [button] = self.shown()
-        self.assertIn("placed (each wells within some parcels), by wells 1. ", text)
+        self.assertIn("wells 1 would lie within none of parcels. (parcels, rule placed, 37 RuleBroken)", text)
         button.click()
         self.assertEqual([feature["_id"] for feature in wells.selectedFeatures()], [1])
         parcels.rollBack()
+
+
+class Told(QgisCase):
+    """What is said of a refusal: what helps comes first, all of it in a surveyor's words, and all of it can be read."""
+
+    def refused(self, number, points=(), **told):
+        """A refusal as the server has it."""
+        words = REFUSALS[number]
+        place = {"words": "edges 0 and 2 of ring 0", "points": list(points)} if points else None
+        return Refusal({"number": number, "name": "Name", "reason": words.reason, "help": words.help, "place": place, **told})
+
+    def test_each_refusal_has_words_of_its_own_and_none_is_of_the_program(self):
+        self.assertEqual(sorted(SAID), sorted({*REFUSALS, 34}))
+        grid = Grid("500000", "5600000", "0.1")
+        for number, said in SAID.items():
+            for count in (0, *said.places):
+                points = [(1 / 3, 2 / 3), (100, 200.5)][:count]
+                error = self.refused(number, points) if number != 34 else Refusal({"number": 34, "name": "Name", "reason": ""})
+                words = words_of(error, grid, "parcels")
+                self.assertTrue(words.startswith(f"{said.remedy}: "), words)
+                self.assertTrue(words.endswith(f". (parcels, {number} Name)"), words)
+                self.assertLess(len(words), 200, words)
+                self.assertNotRegex(words, "`|vertex|vertices|ring|edge |shell|feature of that|column|[A-Z]{4}|{|}")
+                self.assertEqual(words.count("(500"), count, words)
+        self.assertIn("at (500000.03 5600000.07).", words_of(self.refused(13, [(1 / 3, 2 / 3)]), grid))
+        self.assertIn("itself. (13", words_of(self.refused(13)))
+        self.assertIn("at (0.3 0.7).", words_of(self.refused(13, [(1 / 3, 2 / 3)]), Grid("0", "0", "1")))
+        self.assertIn("at (7.12345667 46).", words_of(self.refused(13, [(2 / 3, 0)]), Grid("7.1234566", "46", "0.0000001")))
+
+    def test_a_step_of_others_names_who_can_take_it_back(self):
+        whose = {"editor": "Ben", "line": "set parcels 7 owner '" + "x" * 200}
+        words = words_of(self.refused(36, whose=whose))
+        self.assertTrue(words.startswith("Ask Ben: the step is theirs, set parcels 7 owner 'xx"), words)
+        self.assertLess(len(words), 150)
+
+    def test_what_is_no_refusal_ends_as_a_sentence_does(self):
+        self.assertEqual(words_of(CallFailed(409, "Ben changed parcels 7 meanwhile: look again.")), "Look again: Ben changed parcels 7 meanwhile.")
+        self.assertEqual(words_of(CallFailed(503, "It is full"), None, "parcels"), "It is full. (parcels)")
+        self.assertEqual(words_of(OSError(28, "No space left on device", "/x")), "/x: No space left on device.")
+        gone = ServerGone("The server of town.sfs does not answer: timed out.")
+        gone.__cause__ = TimeoutError("timed out")
+        self.assertEqual(words_of(gone), f"Wait a moment: {gone}")
+        self.assertEqual(words_of(ServerGone("sfstore-web: /x is no store")), "/x is no store.")
+
+    def test_a_refusal_gives_way_to_the_next_one_and_goes_with_an_edit_that_is_taken(self):
+        parcels = self.layer()
+        parcels.startEditing()
+        drawn = self.draw(CROSSED)
+        for _ in range(2):
+            self.turn()
+            self.assertFalse(parcels.commitChanges())
+            self.turn()
+            told = [item.text() for item in self.window.messages.items() if "RingNotSimple" in item.text()]
+            self.assertEqual(len(told), 1, told)
+        self.plugin.teller.tell("something else")
+        parcels.changeGeometry(drawn.id(), QgsGeometry.fromWkt(SQUARE))
+        self.assertTrue(parcels.commitChanges(), parcels.commitErrors())
+        self.turn()
+        self.assertEqual(self.said(), ["something else"])
+        # One that somebody has closed is gone already.
+        parcels.startEditing()
+        drawn = self.draw(CROSSED)
+        self.turn()
+        self.window.messages.clearWidgets()
+        self.turn()
+        parcels.changeGeometry(drawn.id(), QgsGeometry.fromWkt(CROSSED.replace("540 56", "560 56")))
+        self.turn()
+        self.assertIn("RingNotSimple", " ".join(self.said()))
+
+    def test_a_message_is_whole_in_a_window_of_any_width(self):
+        self.window.show()
+        error = self.refused(14, [(0, 0), (100, 200.5)])
+        heights = []
+        for width in (1_200, 640, 400):
+            self.window.resize(width, 600)
+            self.plugin.teller.refuse("parcels", error, self.session)
+            self.turn(0.2)
+            heights.append(self.assert_whole())
+            self.window.resize(width - 60, 600)
+            self.turn(0.2)
+            self.assert_whole()
+            self.said()
+        self.assertLess(heights[0], heights[-1])
+
+    def assert_whole(self):
+        """Nothing of the message has to be scrolled to. Gives how high it is."""
+        [item] = self.window.messages.items()
+        [browser] = item.findChildren(QTextBrowser)
+        self.assertEqual((browser.verticalScrollBar().maximum(), browser.horizontalScrollBar().maximum()), (0, 0))
+        self.assertGreaterEqual(item.height(), browser.height())
+        return browser.height()
+
+    def test_a_layer_is_given_a_name_that_it_can_have(self):
+        for name in ("my layer", "5th", "", "x polygon\nlayer drop parcels", "Straße"):
+            self.said()
+            self.plugin.tried(partial(self.plugin.add_layer, name, "point"))
+            self.assertIn("Take another name than ", " ".join(self.said()))
+        self.assertEqual(len(self.session.layers()), 3)
+
+    def test_a_store_that_another_program_has_open(self):
+        self.end()
+        self.plugin = Plugin(self.window)
+        self.plugin.initGui()
+        with Store(str(self.path), journal=True, program=PROGRAM):
+            self.plugin.tried(partial(self.plugin.open, str(self.path)))
+            [said] = self.said()
+        self.assertEqual(said, f"End the other program first, such as the console: {self.path} is open in another session.")
 
 
 class AtOnce(QgisCase):
@@ -1230,8 +1928,8 @@ class AtOnce(QgisCase):
         version = self.session.call("map")["version"]
         self.layer().startEditing()
         self.set(10, "owner", "once")
-        self.turn()
-        self.assertIn("once", self.stored()[10])
+        self.wait_for(lambda: "once" in self.stored()[10])
+        self.settle()
         self.assertEqual(self.session.call("map")["version"], version + 1)
 
     def test_a_store_that_leaves_the_project_is_free_again(self):
@@ -1256,7 +1954,7 @@ class AtOnce(QgisCase):
         parcels.moveVertex(box.xMinimum() - 5, box.center().y(), self.fid(10), corner)
         parcels.endEditCommand()
         self.turn()
-        self.assertIn("parcels: Refused (13 RingNotSimple)", " ".join(self.said()))
+        self.assertIn("(parcels, 13 RingNotSimple)", " ".join(self.said()))
         self.assertEqual(self.feature(10).geometry().asWkt(), was.asWkt())
         self.assertFalse(parcels.isModified())
         self.assertTrue(parcels.isEditable())
@@ -1272,7 +1970,7 @@ class AtOnce(QgisCase):
         self.draw(self.feature(10).geometry().asWkt(), number=9001)
         self.turn()
         said = " ".join(self.said())
-        self.assertIn("a rule would be broken, apart (never parcels T******** parcels), by parcels 10 and parcels 201 (new). ", said)
+        self.assertIn(Ruled.APART, said)
         self.assertFalse(parcels.isModified())
         self.assertEqual(len(self.stored()), 200)
 
@@ -1285,10 +1983,10 @@ class AtOnce(QgisCase):
         # Nothing of that was heard here yet.
         self.set(7, "owner", "Ann's")
         self.plugin.send()
-        self.assertIn("Ben changed parcels 7 meanwhile: look again.", " ".join(self.said()))
+        self.assertIn("Look again: Ben changed parcels 7 meanwhile.", " ".join(self.said()))
         parcels.deleteFeature(self.fid(8))
         self.plugin.send()
-        self.assertIn("Ben deleted parcels 8 meanwhile: look again.", " ".join(self.said()))
+        self.assertIn("Look again: Ben deleted parcels 8 meanwhile.", " ".join(self.said()))
         self.assertFalse(parcels.isModified())
         self.settle()
         self.assertEqual(self.feature(7)["owner"], "Ben's")
@@ -1301,7 +1999,7 @@ class AtOnce(QgisCase):
         ben.call("batch", page="ben", lines=["set parcels 7 owner 'Ben''s'"], seen=[version])
         self.set(7, "owner", "Ann's")
         self.plugin.send()
-        self.assertIn("Ben changed parcels 7 meanwhile: look again.", " ".join(self.said()))
+        self.assertIn("Look again: Ben changed parcels 7 meanwhile.", " ".join(self.said()))
         self.settle()
         self.set(7, "owner", "Ann's")
         self.turn()
@@ -1426,6 +2124,25 @@ class AtOnce(QgisCase):
         self.assertIn("At once", self.stored()[10])
         self.assert_alike()
 
+    def test_behind_a_refused_edit_they_move_the_stores_steps_too(self):
+        parcels = self.window.active = self.layer()
+        undo = self.window.action("mActionUndo")
+        parcels.startEditing()
+        self.set(10, "owner", "At once")
+        self.turn()
+        self.draw(CROSSED)
+        self.turn()
+        self.assertIn("RingNotSimple", " ".join(self.said()))
+        self.settle()
+        # What was refused is no step that QGIS could redo.
+        self.assertEqual((parcels.undoStack().count(), parcels.isModified()), (0, False))
+        undo.setEnabled(False)
+        self.assertTrue(undo.isEnabled())
+        undo.trigger()
+        self.settle()
+        self.assertNotIn("At once", self.stored()[10])
+        self.assert_alike()
+
     def test_what_was_not_sent_before_the_switch_is_not_taken_back(self):
         self.plugin.switch.setChecked(False)
         parcels = self.layer()
@@ -1469,7 +2186,7 @@ class Others(QgisCase):
         parcels.startEditing()
         self.set(7, "owner", "Ann's")
         self.bens(ben, "set parcels 7 owner 'Ben''s'")
-        self.assertIn("Ben has changed what you are changing too: parcels 7", " ".join(self.said()))
+        self.assertIn("Give your change up, look, and do it again: Ben has changed what you are changing too, parcels 7.", " ".join(self.said()))
         self.assertFalse(parcels.commitChanges())
         self.turn()
         self.assertIn("Ben changed parcels 7 meanwhile", " ".join(self.said()))
@@ -1517,14 +2234,14 @@ class Others(QgisCase):
         items = self.window.messages.items()
         shown = [item.findChild(QTextBrowser).toPlainText() for item in items]
         self.assertEqual(shown, [f"sfstore: {html.unescape(item.text())}" for item in items])
-        self.assertIn(f"({name}: set parcels 7 owner '{value}'). Who made it can undo it.", " ".join(shown))
+        self.assertIn(f"Ask {name}: the step is theirs, set parcels 7 owner '{value}'. (36 NotYours)", " ".join(shown))
         self.assertIn(f"{name} changed parcels 7 meanwhile", " ".join(shown))
 
     def test_nobody_undoes_anothers_step(self):
         ben = self.ben()
         self.bens(ben, "set parcels 7 owner 'Ben''s'")
         self.plugin.tried(lambda: self.plugin.move("undo"))
-        self.assertIn("Refused (36 NotYours): the step is another editor's (Ben: set parcels 7", " ".join(self.said()))
+        self.assertIn("Ask Ben: the step is theirs, set parcels 7 owner 'Ben''s'. (36 NotYours)", " ".join(self.said()))
         self.assertIn("Ben''s", self.stored()[7])
 
     def test_of_several_stores_one_has_to_be_chosen(self):
@@ -1538,7 +2255,7 @@ class Others(QgisCase):
         self.settle()
         for act in (partial(self.plugin.move, "undo"), self.plugin.save):
             self.plugin.tried(act)
-            self.assertIn("Several stores are open: choose a layer of the one that is meant.", self.said())
+            self.assertIn("Choose a layer of the store that you mean: several are open.", self.said())
             self.assertIn("owner='Ann''s'", self.stored()[7])
         self.plugin.add_layer("bushes", "point")
         self.assertEqual([layer["name"] for layer in Session.of(str(other)).layers()], ["trees", "bushes"])
@@ -1550,7 +2267,7 @@ class Others(QgisCase):
     def test_a_save_is_asked_about_as_it_ends_the_history_of_all(self):
         ben = self.ben()
         self.bens(ben, "set parcels 7 owner 'Ben'")
-        [action] = [each for each in self.plugin.bar.actions() if each.text() == "Save the store"]
+        [action] = [each for each in self.plugin.bar.actions if each.text() == "Save the store"]
         for answer, is_saved in ((QMessageBox.No, False), (QMessageBox.Yes, True)):
             with mock.patch.object(QMessageBox, "question", return_value=answer) as asked:
                 action.trigger()
@@ -1563,7 +2280,7 @@ class Others(QgisCase):
         self.layer().commitChanges(False)
         self.set(7, "owner", "y")
         self.plugin.move("undo")
-        self.assertIn("has edits that the store has not", " ".join(self.said()))
+        self.assertIn("Save your edits of parcels, or take them back first", " ".join(self.said()))
         self.assertIn("owner='x'", self.stored()[7])
 
     def test_a_number_that_comes_again(self):
@@ -1593,7 +2310,7 @@ class Unseen(QgisCase):
         # A vertex that was on its way when Ben's came has another number now.
         parcels.moveVertex(500130, 5600001, self.fid(7), 2)
         self.assertFalse(parcels.commitChanges())
-        self.assertIn("Ben changed parcels 7 meanwhile: look again.", " ".join([*self.said(), *parcels.commitErrors()]))
+        self.assertIn("Look again: Ben changed parcels 7 meanwhile.", " ".join([*self.said(), *parcels.commitErrors()]))
         parcels.rollBack()
         self.turn(1.1)
         parcels.startEditing()
@@ -1612,7 +2329,7 @@ class Unseen(QgisCase):
         form.changeAttribute("number", 77)
         self.assertTrue(form.save())
         self.assertFalse(parcels.commitChanges())
-        self.assertIn("Ben changed parcels 7 meanwhile: look again.", " ".join([*self.said(), *parcels.commitErrors()]))
+        self.assertIn("Look again: Ben changed parcels 7 meanwhile.", " ".join([*self.said(), *parcels.commitErrors()]))
         parcels.rollBack()
         parcels.startEditing()
         form.setFeature(self.feature(7))
@@ -1620,6 +2337,26 @@ class Unseen(QgisCase):
         self.assertTrue(form.save())
         self.assertTrue(parcels.commitChanges(), parcels.commitErrors())
         self.assertTrue(self.stored()[7].endswith("number=78 owner='Ben''s'"))
+
+    def test_a_form_that_qgis_has_made_counts_as_one_of_pythons_own(self):
+        QgsGui.editorWidgetRegistry().initEditors()
+        ben, parcels = self.ben(), self.layer()
+        parcels.startEditing()
+        # The form within it is no form to Python.
+        dialog = QgsAttributeDialog(parcels, self.feature(7), False)
+        dialog.show()
+        self.addCleanup(dialog.deleteLater)
+        self.bens(ben, "set parcels 7 owner 'Ben''s'")
+        self.turn(1.1)
+        self.set(7, "number", 77)
+        self.assertFalse(parcels.commitChanges())
+        self.assertIn("Look again: Ben changed parcels 7 meanwhile.", " ".join([*self.said(), *parcels.commitErrors()]))
+        parcels.rollBack()
+        dialog.close()
+        self.turn(0.1)
+        parcels.startEditing()
+        self.set(7, "number", 78)
+        self.assertTrue(parcels.commitChanges(), parcels.commitErrors())
 
     def test_ones_own_edits_are_no_news(self):
         parcels = self.layer()
@@ -1685,7 +2422,7 @@ class Lost(QgisCase):
         self.session._try_again()
         self.wait_for(lambda: self.session.is_connected)
         said = " ".join(self.said())
-        self.assertIn("parcels: The store has another grid or reference system than before, and was read anew. Edits that were not sent", said)
+        self.assertIn("given up: the store has another grid or reference system than before.", said)
         self.assertIn("parcels is shown in the store's reference system, EPSG:2056: the project had EPSG:25832.", said)
         self.assertFalse(parcels.isModified())
         self.turn(0.3)
@@ -1693,6 +2430,24 @@ class Lost(QgisCase):
             self.assertEqual(layer.layer.crs().authid(), "EPSG:2056")
             self.assertGreater(layer.layer.extent().xMinimum(), 2_590_000)
         self.assertEqual(parcels.geometryOptions().geometryPrecision(), 1)
+        parcels.startEditing()
+        self.draw("POLYGON((2600000 1209000, 2600009 1209000, 2600009 1209009, 2600000 1209000))", owner="there")
+        self.assertTrue(parcels.commitChanges(), parcels.commitErrors())
+        self.assertIn("201 POLYGON ((0 9000, 9 9000, 9 9009, 0 9000)) owner='there'", self.stored()[201])
+        self.settle()
+        self.assert_alike()
+
+    def test_a_side_car_that_is_changed_under_the_server(self):
+        """What was drawn by the old grid is not sent, and the layers lie by the new one."""
+        parcels = self.layer()
+        parcels.startEditing()
+        self.set(52, "owner", "waits")
+        self.place(self.path, grid=["2600000", "1200000", "1"], crs="2056")
+        self.assertFalse(parcels.commitChanges())
+        self.assertNotIn("waits", self.stored()[52])
+        self.wait_for(lambda: parcels.crs().authid() == "EPSG:2056")
+        self.turn(0.3)
+        self.assertGreater(parcels.extent().xMinimum(), 2_590_000)
         parcels.startEditing()
         self.draw("POLYGON((2600000 1209000, 2600009 1209000, 2600009 1209009, 2600000 1209000))", owner="there")
         self.assertTrue(parcels.commitChanges(), parcels.commitErrors())

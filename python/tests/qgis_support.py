@@ -79,6 +79,13 @@ class Window(QMainWindow):
             action = QAction(name, self)
             action.setObjectName(name)
             action.setEnabled(False)
+        self.listed = []
+
+    def addPluginToMenu(self, name, action):
+        self.listed.append(action.text())
+
+    def removePluginMenu(self, name, action):
+        self.listed.remove(action.text())
 
     def mapCanvas(self):
         return self.canvas

@@ -11,11 +11,15 @@ import subprocess
 from typing import NamedTuple, Union
 
 from sfstore import Rule
-from sfstore.results import AnyRule, ValueRule
+from sfstore.rules import AnyRule, ValueRule, rule_of
+from sfstore.values import of_text
 
 NAME = re.compile("[A-Za-z][A-Za-z0-9_]{0,31}")
 PREDICATES = ("equals", "disjoint", "intersects", "touches", "within", "contains", "crosses", "overlaps")
 PATTERN = re.compile("[TtFf*012]{9}")
+# A distance, whose digits behind the point are at most three.
+NEAR = re.compile(r"near (\d+)(?:\.(\d{1,3}))?")
+DISTANCE_LIMIT = 4_294_967_296
 
 
 class Program:
@@ -92,15 +96,13 @@ class Model:
             if len(left) == len(self._rules):
                 return "refused 39 NoRule"
             return self._to(Rules(editor), left)
-        rule: AnyRule
-        if words[3] in ("unique", "required"):
-            rule = ValueRule(*words[2:])  # type: ignore[arg-type]
-        else:
-            rule = Rule(words[2], words[3], words[4], words[5], words[-1])  # type: ignore[arg-type]
+        rule = rule_of(" ".join(words[2:]))
+        if isinstance(rule, Rule) and rule.ask.startswith("near") and not _is_near(rule.ask):
+            return "refused 31 BadCommand"
         return self._refusal(rule) or self._to(Rules(editor), [*self._rules, rule])
 
     def _refusal(self, rule: AnyRule) -> str:
-        if isinstance(rule, Rule) and rule.ask not in PREDICATES and not PATTERN.fullmatch(rule.ask):
+        if isinstance(rule, Rule) and rule.ask not in PREDICATES and not PATTERN.fullmatch(rule.ask) and not _is_near(rule.ask):
             return "refused 32 BadPattern"
         if not NAME.fullmatch(rule.name):
             return "refused 20 BadName"
@@ -109,8 +111,12 @@ class Model:
         layers = [row.split(" ")[0] for row in self._program.ask("layers")[1:]]
         if not set(rule.layers) <= set(layers):
             return "refused 18 NoLayer"
-        if isinstance(rule, ValueRule) and rule.column not in [row.split(" ")[0] for row in self._program.ask(f"columns {rule.layer}")[1:]]:
-            return "refused 22 NoColumn"
+        if isinstance(rule, ValueRule):
+            types = dict(row.split(" ") for row in self._program.ask(f"columns {rule.layer}")[1:])
+            if rule.column not in types:
+                return "refused 22 NoColumn"
+            if not _fits(rule, types[rule.column]):
+                return "refused 24 WrongValue"
         return self._broken(rule)
 
     def _broken(self, rule: AnyRule) -> str:
@@ -121,8 +127,8 @@ class Model:
         rows = self._program.ask(f"show {rule.layer}")[1:]
         value = re.compile(f" {rule.column}=('(?:[^']|'')*'|[^ ]+)")
         found = [(row.split(" ")[0], value.search(row)) for row in rows]
-        if rule.demand == "required":
-            left = next((number for number, text in found if text is None), None)
+        if rule.demand != "unique":
+            left = next((number for number, text in found if rule.is_wrong(None if text is None else of_text(text[1]))), None)
             return f"refused 37 RuleBroken {rule.name} {left}" if left else ""
         valued = [(number, text[1]) for number, text in found if text is not None]
         for at, (number, text) in enumerate(valued):
@@ -147,7 +153,7 @@ class Model:
         if words[:2] == ["layer", "drop"] and any(words[2] in rule.layers for rule in self._rules):
             return "refused 41 LayerRuled"
         if words[:2] == ["column", "drop"] and any(isinstance(rule, ValueRule) and words[2:] == [rule.layer, rule.column] for rule in self._rules):
-            return "refused 41 LayerRuled"
+            return "refused 42 ColumnRuled"
         [answer] = self._program.ask(editor + line)
         if answer.startswith("refused"):
             return answer
@@ -193,6 +199,15 @@ class Model:
         return "ok"
 
 
+def _fits(rule: ValueRule, column_type: str) -> bool:
+    """Whether a column of a type, one of texts or of whole numbers, can have the values that a rule names, and its range has a value."""
+    ends = [end for end in (rule.least, rule.greatest) if end is not None]
+    wanted = str if column_type == "text" else int
+    if any(type(value) is not wanted for value in [*rule.allowed, *ends]):
+        return False
+    return len(ends) < 2 or ends[0] <= ends[1]  # type: ignore[operator]
+
+
 def _renamed(rule: AnyRule, old: str, new: str) -> AnyRule:
     """A rule with another name for a layer."""
     layer = new if rule.layer == old else rule.layer
@@ -201,8 +216,18 @@ def _renamed(rule: AnyRule, old: str, new: str) -> AnyRule:
     return rule._replace(layer=layer, other=new if rule.other == old else rule.other)
 
 
+def _is_near(ask: str) -> bool:
+    """Whether a distance is asked for that a store has."""
+    found = NEAR.fullmatch(ask)
+    return found is not None and int(found[1]) < DISTANCE_LIMIT
+
+
 def _row(rule: AnyRule) -> str:
-    """The row of a rule: patterns have capital letters."""
+    """The row of a rule: patterns have capital letters, and distances no digit behind the point or three."""
     if isinstance(rule, ValueRule):
         return rule.line
+    near = NEAR.fullmatch(rule.ask)
+    if near:
+        digits = (near[2] or "").ljust(3, "0")
+        return rule._replace(ask=f"near {int(near[1])}" + (f".{digits}" if int(digits) else "")).line
     return rule.line if rule.ask in PREDICATES else rule._replace(ask=rule.ask.upper()).line

@@ -184,3 +184,8 @@ class WebCase(TestCase):
 
     def make_town(self):
         self.make(TOWN.read_bytes())
+
+    def programs(self, serving):
+        """The programs of a server, by their numbers."""
+        said = subprocess.run(["pgrep", "-P", str(serving.process.pid)], capture_output=True, text=True)
+        return list(map(int, said.stdout.split()))

@@ -12,12 +12,12 @@ from sfstore.exchange.grid import Rounding
 from sfstore.results import Column
 from sfstore.web.client import ServerGone
 
-from .fields import FieldsDiffer, check_layer, names_of
-from .forms import is_form_of_several_open, shown_in_forms
+from .fields import IDENTIFIER, FieldsDiffer, check_layer, columns_of, names_of
+from .forms import is_form_of_several_open, shown_in_forms, unread_in, unread_text
 from .provider import Outcome, Provider
-from .writing import Edits, Line, added_numbers, corners_of
+from .writing import Edits, Line, NotSent, added_numbers, corners_of, is_none
 
-__all__ = ["Editing", "commit", "prepare"]
+__all__ = ["Editing", "commit", "prepare", "unread_words"]
 
 # So long after others have changed a feature an edit of it may have been begun before: a vertex was on its way.
 UNSEEN_SECONDS = 3.0
@@ -53,6 +53,8 @@ class Editing:
     def __init__(self, layer: QgsVectorLayer) -> None:
         self.layer = layer
         self.key: str = layer.id()
+        self.name: str = layer.name()
+        """The name of the layer in the project, for threads too which may not ask the layer."""
         self.provider: Provider = layer.dataProvider()
         self.rounding = Rounding()
         self.is_in_doubt = False
@@ -64,11 +66,16 @@ class Editing:
         """Whether it was found to count its fields otherwise than its provider: nothing that it has not sent is right."""
         # The commands of QGIS' undo stack from here on were not sent.
         self.base = 0
+        self.reshaped: set[int] = set()
+        """QGIS' numbers of the features that were drawn, reshaped or deleted here, which was not sent yet."""
+        self._index = 0
         self._seen: dict[int, _Seen] = {}
         self._news: dict[int, _News] = {}
         # Features that others have changed while a form of several ones was open, which may show what was there before: the
         # version of the store before.
         self._unread: dict[int, int] = {}
+        # What was typed in a field, and is no value: QGIS has none there instead. By QGIS' number of the feature and the column.
+        self._unread_texts: dict[tuple[int, str], str] = {}
         # The version and the columns that were seen when the first of what was not sent was done.
         self._begun: _Begun | None = None
 
@@ -94,10 +101,26 @@ class Editing:
     def begin(self) -> None:
         """Begins anew, with nothing that was not sent."""
         self._seen.clear()
+        self._unread_texts.clear()
+        self.reshaped = set()
         self._begun = None
         self.differs = False
         self.is_in_doubt = False
         self.base = 0
+
+    def take_name(self) -> None:
+        self.name = self.layer.name()
+
+    def reshape(self, fid: int, *_: object) -> None:
+        """Notes that a feature was drawn, reshaped or deleted."""
+        self.reshaped.add(fid)
+
+    def follow_stack(self, index: int) -> None:
+        """Notes behind an undo of QGIS' own which features are not as the store has them still."""
+        if index < self._index:
+            buffer = self.layer.editBuffer()
+            self.reshaped = {*buffer.changedGeometries(), *buffer.deletedFeatureIds(), *buffer.addedFeatures()} if buffer else set()
+        self._index = index
 
     def touch(self, fid: int) -> None:
         """Notes what the user sees of a feature that they edit, and of the columns."""
@@ -105,6 +128,37 @@ class Editing:
         number = self.provider.mirror.numbers.get(fid)
         if number is not None and number not in self._seen:
             self._seen[number] = self._seen_now(fid, number)
+
+    def touch_value(self, fid: int, at: int, found: Any) -> None:
+        """Notes what the user sees of a feature of which they edit a value, and what they have typed where QGIS has made none of it."""
+        self.touch(fid)
+        # A step of QGIS may name a field that is not there any more.
+        column = next(iter(columns_of(self.layer.fields())[at : at + 1]), None)
+        if column is not None and column.name != IDENTIFIER:
+            self._unread_texts.pop((fid, column.name), None)
+            text = unread_text(column) if is_none(found) else ""
+            if text:
+                self._unread_texts[fid, column.name] = text
+
+    def touch_new(self, fid: int) -> None:
+        """Notes so what was typed for a feature that is added."""
+        added = self.layer.editBuffer().addedFeatures().get(fid) if self.layer.isEditable() else None
+        for at, found in enumerate(added.attributes() if added is not None else []):
+            self.touch_value(fid, at, found)
+
+    def unread_at(self, line: Any) -> str:
+        """What is said of a field of one line that is left, where it has a text of which QGIS makes no value; else nothing."""
+        columns = columns_of(self.layer.fields()) if self.layer.isEditable() else []
+        found = ((column.name, unread_in(line, column)) for column in columns if column is not None and column.name != IDENTIFIER)
+        return next((unread_words(name, text) for name, text in found if text), "")
+
+    def _check_read(self) -> None:
+        """`NotSent` where something was typed of which QGIS has made no value."""
+        buffer = self.layer.editBuffer()
+        there = {*buffer.changedAttributeValues(), *buffer.addedFeatures()}
+        for (fid, name), text in self._unread_texts.items():
+            if fid in there:
+                raise NotSent(unread_words(name, text))
 
     def _seen_now(self, fid: int, number: int) -> _Seen:
         """What the user sees of a feature: not what has come a moment ago, nor what an open form does not show."""
@@ -178,6 +232,7 @@ class Editing:
         except FieldsDiffer:
             self.differs = True
             raise
+        self._check_read()
         edits = self._edits()
         if edits.dropped or edits.columns:
             self.provider.check_fields_may_change(self.key)
@@ -225,6 +280,11 @@ class Editing:
     def _content(self, number: int) -> tuple[Any, ...]:
         feature = self.provider.mirror.memory_feature(number)
         return bytes(feature.geometry().asWkb()), feature.attributes()
+
+
+def unread_words(name: str, text: str) -> str:
+    """What is said of a text in a column of which QGIS makes no value."""
+    return f"Type it once more: QGIS can't read {text!r} in {name}, and takes it for no value. A time is such as 2024-02-29T12:30:00Z"
 
 
 def prepare(editings: Sequence[Editing]) -> None:

@@ -14,7 +14,7 @@ from qgis.PyQt.QtCore import NULL, QVariant
 
 from sfstore.results import Column, ColumnType
 
-from .values import column_type_of, field_of, shown, spelling_of
+from .values import Choice, column_type_of, dressed, field_of, shown, spelling_of
 
 __all__ = ["IDENTIFIER", "Fields", "FieldsDiffer", "Places", "as_columns", "check_layer", "columns_of", "names_of"]
 
@@ -67,9 +67,13 @@ class Fields:
     shown: QgsFields
     """The fields as a provider gives them: a memory layer's own remember the places that they had before one went."""
 
-    def __init__(self, memory: Any, columns: Sequence[Column]) -> None:
-        """Gives a memory layer, which has no fields yet, those of some columns. `FieldsDiffer` where it takes them not."""
+    def __init__(self, memory: Any, columns: Sequence[Column], choices: Mapping[str, Choice]) -> None:
+        """Gives a memory layer, which has no fields yet, those of some columns. `FieldsDiffer` where it takes them not.
+
+        ``choices`` are what rules say of values, by the names of columns.
+        """
         self._memory = memory
+        self._choices = choices
         self._asked: dict[str, QgsField] = {}
         # The memory layer's own, as they were when they were looked at last.
         self._agreed = QgsFields()
@@ -84,7 +88,7 @@ class Fields:
         """
         self.check()
         self._asked.update({field.name(): field for field in asked})
-        self._memory.addAttributes([field_of(column) for column in columns])
+        self._memory.addAttributes(list(map(field_of, columns)))
         self.columns += columns
         self._show()
 
@@ -105,6 +109,14 @@ class Fields:
         if found != [(IDENTIFIER, "int"), *self.columns]:
             raise FieldsDiffer(f"it has the fields {_listed(found)}, and the columns are {_listed(self.columns)}")
 
+    def choose(self, choices: Mapping[str, Choice]) -> bool:
+        """Shows fields by what rules say now of values. Whether they say something else than before."""
+        are_others = choices != self._choices
+        if are_others:
+            self._choices = choices
+            self._show()
+        return are_others
+
     def settle(self) -> None:
         """Shows each field as its column is: a commit has ended."""
         self._asked.clear()
@@ -114,10 +126,16 @@ class Fields:
         self._agreed = QgsFields()
         self.check()
         self._agreed, self.shown = self._memory.fields(), QgsFields()
+        known = {column.name: column for column in self.columns}
         for at, field in enumerate(self._agreed):
-            self.shown.append(self._asked.get(field.name(), field), QgsFields.OriginProvider, at)
+            self.shown.append(self._asked.get(field.name()) or self._dressed(field, known), QgsFields.OriginProvider, at)
         places = {column.name: (place, column.type) for place, column in enumerate(self.columns, 1)}
         self._places = Places(1 + len(self.columns), places)
+
+    def _dressed(self, field: QgsField, columns: Mapping[str, Column]) -> QgsField:
+        """A field of the memory layer as forms have it; that of the identifier as it is."""
+        column = columns.get(field.name())
+        return field if column is None else dressed(field, column, self._choices.get(column.name, Choice()))
 
     def places(self) -> Places:
         """Where values stand. `FieldsDiffer` where the memory layer has other fields."""

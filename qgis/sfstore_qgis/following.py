@@ -17,15 +17,18 @@ class Followed(NamedTuple):
     """Layers with their columns and all features."""
     is_anew: bool
     """Whether all has to be."""
+    are_ruled: bool = False
+    """Whether rules came or went."""
 
 
 def followed(events: Iterable[dict[str, Any]], own: Collection[int]) -> Followed:
     """What events say, but for those of versions that this session has made itself."""
     features: dict[str, set[int]] = {}
     whole: set[str] = set()
-    is_anew = False
+    is_anew = are_ruled = False
     for event in events:
         is_anew = is_anew or bool(event.get("anew"))
+        are_ruled = are_ruled or any(change["what"] == "rules" for change in event.get("changed", []))
         if event.get("version") in own:
             continue
         for change in event.get("changed", []):
@@ -35,4 +38,4 @@ def followed(events: Iterable[dict[str, Any]], own: Collection[int]) -> Followed
                 whole.add(change["layer"])
             else:
                 features.setdefault(change["layer"], set()).add(change["id"])
-    return Followed(features, whole, is_anew)
+    return Followed(features, whole, is_anew, are_ruled)

@@ -61,7 +61,7 @@ class Mirror(QObject):
         self.numbers: dict[int, int] = {}
         self.layer = QgsVectorLayer(f"{WKB_NAMES[self.kind]}?crs={self.session.crs.authid()}", self.name, "memory")
         self.memory = self.layer.dataProvider()
-        self.fields = Fields(self.memory, columns)
+        self.fields = Fields(self.memory, columns, self.session.choices(self.name))
         self.load()
         if len(self.fids) <= INDEX_AT_ONCE_MAX:
             self.memory.createSpatialIndex()
@@ -94,11 +94,18 @@ class Mirror(QObject):
         self.changed.emit()
 
     def load_anew(self) -> None:
-        """Takes over columns and features as they are now."""
+        """Takes over columns and features as they are now, and what rules say of values."""
         with self._agreeing():
             self._follow_columns()
             self.load()
+        self.follow_rules()
         self.changed.emit()
+
+    def follow_rules(self) -> None:
+        """Has forms offer what rules say now of values."""
+        with self._agreeing():
+            if self.fields.choose(self.session.choices(self.name)):
+                self.columns_changed.emit()
 
     def follow_columns(self) -> None:
         """Takes over the columns, as far as layers that are edited let it."""
@@ -153,7 +160,7 @@ class Mirror(QObject):
         try:
             yield
         except FieldsDiffer as error:
-            self.begin_anew(f"{error}. It was read anew.")
+            self.begin_anew(f"{error}.")
 
     def check(self) -> None:
         """Reads all anew where the fields are others than those of the columns."""

@@ -11,19 +11,25 @@ from typing import Any
 from qgis.core import Qgis, QgsApplication, QgsMapLayer, QgsProject, QgsSettings, QgsVectorLayer
 from qgis.PyQt import sip
 from qgis.PyQt.QtCore import Qt, QTimer
-from qgis.PyQt.QtWidgets import QAction, QApplication, QFileDialog, QInputDialog, QLineEdit, QMessageBox
+from qgis.PyQt.QtWidgets import QApplication, QFileDialog, QInputDialog, QLineEdit, QMessageBox
 
 from sfstore.language import KINDS
 from sfstore.web.client import CallFailed, ServerGone
 
 from . import provider
+from .bar import Bar
 from .editing import Editing, commit, prepare
 from .fields import IDENTIFIER, FieldsDiffer, check_layer
+from .functions import Functions
 from .history import History
 from .saving import Saving
 from .session import LayerRefused, Refusal, Session
-from .told import Breaking, Teller, words_of
-from .writing import NotSent
+from .styles import Styles
+from .told import Breaking, Teller
+from .toolbox import Toolbox
+from .values import is_widget_of_rules
+from .words import words_of
+from .writing import NotSent, checked_name
 
 __all__ = ["Plugin"]
 
@@ -40,6 +46,8 @@ class Plugin:
         self._iface = iface
         self.teller = Teller(iface, self.select)
         self.editings: dict[str, Editing] = {}
+        self.styles = Styles(self.teller, self.editings)
+        self.functions = Functions(self.editings)
         self._sessions: set[str] = set()
         # The store that was opened last, which may have no layer yet.
         self._opened: Session | None = None
@@ -51,24 +59,35 @@ class Plugin:
 
     # What QGIS calls.
 
+    def initProcessing(self) -> None:
+        """Puts the algorithms into the toolbox. Without a window QGIS calls this alone."""
+        self.toolbox = Toolbox()
+        QgsApplication.processingRegistry().addProvider(self.toolbox)
+
     def initGui(self) -> None:
         """Shows the actions, and follows the layers of the project."""
-        self.bar = self._iface.addToolBar("sfstore")
-        self.bar.setObjectName("sfstore")
-        self._add("Open a store ..", self.choose)
-        self.undo = self._add("Undo in the store", partial(self.move, "undo"))
-        self.redo = self._add("Redo in the store", partial(self.move, "redo"))
-        self._add("Save the store", self.choose_save)
-        self._add("Add a layer ..", self.choose_layer)
-        self._add("Drop the layer ..", self.drop_chosen)
-        self._add("Link to the page ..", self.choose_link)
-        self._add("My name ..", self.choose_name)
-        self.switch = QAction("Each edit at once", self.bar, checkable=True, checked=self.at_once)
-        self.switch.toggled.connect(self.set_at_once)
-        self.bar.addAction(self.switch)
+        self.initProcessing()
+        self.bar = bar = Bar(self._iface)
+        bar.add("open", "Open a store ..", self._trying(self.choose))
+        self.undo = bar.add("undo", "Undo in the store", self._trying(partial(self.move, "undo")))
+        self.redo = bar.add("redo", "Redo in the store", self._trying(partial(self.move, "redo")))
+        bar.add("save", "Save the store", self._trying(self.choose_save))
+        bar.add("add-layer", "Add a layer ..", self._trying(self.choose_layer))
+        bar.add("drop-layer", "Drop the layer ..", self._trying(self.drop_chosen))
+        styling = [
+            ("Keep the style with the store", self.keep_style),
+            ("Show the store's style", self.show_style),
+            ("Drop the store's style", self.drop_style),
+        ]
+        bar.add_several("style", "Style of the layer", [(text, self._trying(act)) for text, act in styling])
+        bar.add("link", "Link to the page ..", self._trying(self.choose_link))
+        bar.add("name", "My name ..", self._trying(self.choose_name))
+        self.switch = bar.add_switch("at-once", "Each edit at once", self.at_once, self.set_at_once)
+        self.functions.register()
         self.history = History(self._iface.mainWindow(), self)
         self.saving = Saving(self._iface)
         self._connect(self._iface.currentLayerChanged, self.history.look)
+        QApplication.instance().focusChanged.connect(self._left)
         self._connect(QgsProject.instance().layersAdded, self.watch)
         self._connect(QgsProject.instance().layersWillBeRemoved, self.forget)
         self.watch(QgsProject.instance().mapLayers().values())
@@ -76,23 +95,26 @@ class Plugin:
     def unload(self) -> None:
         """Takes the actions away. The provider stays."""
         self._is_loaded = False
+        # QGIS outlives the plugin, and tells of its last widgets when Python is gone.
+        with contextlib.suppress(TypeError):
+            QApplication.instance().focusChanged.disconnect(self._left)
+        self.functions.unregister()
+        QgsApplication.processingRegistry().removeProvider(self.toolbox)
         self.editings.clear()
         self._sessions.clear()
         self.history.leave()
         self.saving.leave()
         self.teller.clear()
-        self.bar.deleteLater()
+        self.bar.leave()
 
-    def _add(self, text: str, act: Callable[[], object]) -> QAction:
-        action = self.bar.addAction(text)
-        action.triggered.connect(lambda _=False: self.tried(act))
-        return action
+    def _trying(self, act: Callable[[], object]) -> Callable[[], None]:
+        return partial(self.tried, act)
 
     def tried(self, act: Callable[[], object]) -> None:
         """Does something, and says why where it can't be done."""
         try:
             act()
-        except (CallFailed, LayerRefused, OSError, Refusal, ServerGone) as error:
+        except (CallFailed, LayerRefused, NotSent, OSError, Refusal, ServerGone) as error:
             self.teller.tell(words_of(error), Qgis.Warning)
 
     # Stores and layers.
@@ -112,6 +134,7 @@ class Plugin:
             layers = [QgsVectorLayer(str(each), _title(each), provider.KEY) for each in sources]
         if session.placing_fault:
             self.teller.tell(session.placing_fault, Qgis.Warning)
+        self.styles.begin(session, list(zip(sources, layers)))
         QgsProject.instance().addMapLayers(layers[::-1])
 
     def _sources(self, session: Session) -> list[provider.Source]:
@@ -134,7 +157,7 @@ class Plugin:
     def add_layer(self, name: str, kind: str) -> None:
         """Adds a layer to the store of the active layer, else to the one that was opened last: it may have no layer yet."""
         session = (None if self.active() else self._opened_last()) or self._session()
-        session.line(f"layer add {name} {kind}")
+        session.line(f"layer add {checked_name(name)} {kind}")
         self.open(session.path)
 
     def drop_chosen(self) -> None:
@@ -150,6 +173,24 @@ class Plugin:
         if self._are_sent(those):
             editing.session.line(f"layer drop {name}")
             QgsProject.instance().removeMapLayers([each.key for each in those])
+
+    def keep_style(self) -> None:
+        """Keeps how the active layer looks with its store."""
+        self.styles.save(self._chosen())
+
+    def show_style(self) -> None:
+        """Has the active layer look as its store says."""
+        self.styles.show(self._chosen())
+
+    def drop_style(self) -> None:
+        """Takes the style of the active layer out of its store."""
+        self.styles.drop(self._chosen())
+
+    def _chosen(self) -> Editing:
+        active = self.active()
+        if active is None:
+            raise LayerRefused("Choose a layer of a store first.")
+        return active
 
     def choose_link(self) -> None:
         window = self._iface.mainWindow()
@@ -170,17 +211,21 @@ class Plugin:
 
     def watch(self, layers: Iterable[QgsMapLayer]) -> None:
         """Follows those layers that are a store's."""
+        come = []
         for layer in layers:
             if layer.isValid() and layer.type() == QgsMapLayer.VectorLayer and layer.providerType() == provider.KEY:
                 if layer.id() not in self.editings:
                     self.editings[layer.id()] = editing = Editing(layer)
                     self._follow_layer(editing)
                     self._follow_session(editing.session)
+                    come.append(editing)
+        self.tried(partial(self.styles.check, come))
 
     def forget(self, ids: Iterable[str]) -> None:
         """Follows layers no more that leave the project."""
         for each in ids:
             editing = self.editings.pop(each, None)
+            self.styles.forget(each)
             if editing is not None:
                 editing.provider.mirror.held.pop(each, None)
                 self.tried(editing.provider.mirror.settle_columns)
@@ -191,20 +236,27 @@ class Plugin:
         """Leaves a store of which no layer is left in the project: other programs may have it then."""
         if not self._of(session) and session.path in self._sessions:
             self._sessions.discard(session.path)
+            self.functions.leave(session.path)
             session.close()
 
     def _follow_layer(self, editing: Editing) -> None:
         layer, mirror = editing.layer, editing.provider.mirror
         self._place(editing)
         _keep_identifiers(layer)
+        _follow_widgets(layer)
         self._connect(layer.editingStarted, partial(self._begin, editing))
         self._connect(layer.editingStopped, partial(self._end, editing))
         self._connect(layer.beforeCommitChanges, partial(self._prepare, editing))
         self._connect(layer.afterCommitChanges, partial(self._committed, editing))
         self._connect(layer.featureAdded, partial(self._drew, editing))
+        self._connect(layer.featureAdded, editing.touch_new)
         self._connect(layer.geometryChanged, partial(self._drew, editing))
-        self._connect(layer.attributeValueChanged, lambda fid, *_: editing.touch(fid))
+        self._connect(layer.attributeValueChanged, editing.touch_value)
         self._connect(layer.featureDeleted, editing.touch)
+        for signal in (layer.featureAdded, layer.geometryChanged, layer.featureDeleted):
+            self._connect(signal, editing.reshape)
+        self._connect_while_shown(editing, layer.undoStack().indexChanged, editing.follow_stack)
+        self._connect(layer.nameChanged, editing.take_name)
         self._connect(layer.attributeAdded, lambda *_: editing.touch_columns())
         self._connect(layer.attributeDeleted, lambda *_: editing.touch_columns())
         self._connect(layer.undoStack().indexChanged, partial(self._send_soon, editing))
@@ -218,10 +270,11 @@ class Plugin:
             self._sessions.add(session.path)
             self._connect(session.edited, partial(self._heard, session))
             self._connect(session.kind_hidden, self._tell_kind)
+            self._connect(session.styled, lambda *told: self.tried(partial(self.styles.hear, session, *told)))
             self._connect(session.lost, partial(self._lost, session))
             self._connect(session.renewed, partial(self._renewed, session))
             self._connect(session.placed_anew, partial(self._placed_anew, session))
-            self._connect(session.layers_changed, partial(self.tried, partial(self._tell_layers, session)))
+            self._connect(session.layers_changed, lambda *told: self.tried(partial(self._tell_layers, session, *told)))
 
     def _place(self, editing: Editing) -> None:
         """Has a layer lie where the store says: a project may have been written before the store had this grid."""
@@ -283,12 +336,12 @@ class Plugin:
         try:
             check_layer(editing.layer)
         except FieldsDiffer as error:
-            self._give_up(editing, f"{error}. It was read anew.")
+            self._give_up(editing, f"{error}.")
 
     def _look_at(self, editing: Editing) -> None:
         """Gives a layer up, behind a refusal, whose fields were found to be others. QGIS may have read them since."""
         if editing.differs:
-            self._give_up(editing, "Its fields were others than it ought to have. It was read anew.")
+            self._give_up(editing, "its fields were others than it ought to have.")
         else:
             self._check(editing)
 
@@ -305,7 +358,7 @@ class Plugin:
         editing.provider.outcome = None
         editing.session.reload_soon(editing.provider.mirror)
         layer.triggerRepaint()
-        self.teller.tell(f"{layer.name()}: {why} Edits that were not sent are given up.", Qgis.Critical)
+        self.teller.tell(f"Look at {layer.name()} again, and do anew what was not sent, which is given up: {why}", Qgis.Critical)
 
     def _prepare(self, editing: Editing, *_: object) -> None:
         """Asks the store for a whole commit, before QGIS hands its pieces to the provider."""
@@ -389,6 +442,13 @@ class Plugin:
                 each.forget_taken_back()
                 self._look_at(each)
 
+    def _left(self, before: Any, now: Any) -> None:
+        """Tells of a text that was typed and is no value: where there was none before, QGIS has no edit of it."""
+        # One that is being deleted inherits nothing of it any more.
+        if isinstance(before, QLineEdit) and before.inherits("QLineEdit") and before.text().strip():
+            for words in {editing.unread_at(before) for editing in self.editings.values()} - {""}:
+                self.teller.tell(f"{words}.", Qgis.Warning)
+
     # What is drawn and not sent yet is asked about.
 
     def _drew(self, editing: Editing, fid: int, *_: object) -> None:
@@ -443,9 +503,9 @@ class Plugin:
         if (opened := self._opened_last()) is not None:
             sessions[opened.path] = opened
         if not sessions:
-            raise LayerRefused("No store is open: open one first.")
+            raise LayerRefused("Open a store first: none is open.")
         if len(sessions) > 1:
-            raise LayerRefused("Several stores are open: choose a layer of the one that is meant.")
+            raise LayerRefused("Choose a layer of the store that you mean: several are open.")
         return next(iter(sessions.values()))
 
     def _opened_last(self) -> Session | None:
@@ -462,7 +522,7 @@ class Plugin:
         """Whether layers have no edits that the store has not. The first one that has some is told."""
         for each in editings:
             if each.layer.isModified():
-                words = f"{each.layer.name()} has edits that the store has not: save them, or take them back first."
+                words = f"Save your edits of {each.layer.name()}, or take them back first: the store does not have them yet."
                 self.teller.tell(words, Qgis.Warning)
                 return False
         return True
@@ -491,23 +551,28 @@ class Plugin:
             editing.hear(changed, event["before"])
             both = sorted(changed & editing.touched()) if event["number"] != session.editor else []
             if both:
-                what = f"{event['editor']} has changed what you are changing too: {layer} {', '.join(map(str, both))}"
-                self.teller.tell(f"{what}. Give your change up, look at it, and do it again.", Qgis.Warning)
+                what = f"{event['editor']} has changed what you are changing too, {layer} {', '.join(map(str, both))}"
+                self.teller.tell(f"Give your change up, look, and do it again: {what}.", Qgis.Warning)
 
-    def _tell_layers(self, session: Session) -> None:
+    def _tell_layers(self, session: Session, renamed: tuple[str, str] | None, who: str) -> None:
         """Says which layers of the store are not in the project, and which ones of the project not in the store."""
         names = {layer["name"] for layer in session.layers()}
         shown = {each.provider.source.layer for each in self._of(session)}
+        before, after = renamed or ("", "")
+        if before in shown - names and after in names - shown:
+            words = f"Open the store again to show it under its new name, and remove the old one: {who} has renamed {before} to {after}."
+            self.teller.tell(words, Qgis.Warning)
+            names, shown = names - {after}, shown - {before}
         if names - shown:
-            self.teller.tell(f"New in the store: {', '.join(sorted(names - shown))}. Open it again to show them.")
+            self.teller.tell(f"Open the store again to show what is new: {', '.join(sorted(names - shown))}.")
         if shown - names:
-            self.teller.tell(f"Not in the store any more: {', '.join(sorted(shown - names))}.", Qgis.Warning)
+            self.teller.tell(f"Leave it alone, or remove it from the project: the store has no {', '.join(sorted(shown - names))} any more.", Qgis.Warning)
 
     def _tell_kind(self, layer: str, kind: str) -> None:
-        self.teller.tell(f"{layer} has a {kind} now, which is not shown. Open the store again to show it.", Qgis.Warning)
+        self.teller.tell(f"Open the store again to show it: {layer} has a {kind} now.", Qgis.Warning)
 
     def _lost(self, session: Session) -> None:
-        self.teller.tell("The store's server does not answer. It is tried again; your edits wait.", Qgis.Warning)
+        self.teller.tell("Wait, or draw on: the store's server does not answer, and is tried again. Your edits stay.", Qgis.Warning)
 
     def _renewed(self, session: Session) -> None:
         in_doubt = []
@@ -515,8 +580,8 @@ class Plugin:
             editing.renew()
             if editing.is_in_doubt and editing.layer.isModified():
                 in_doubt.append(editing.layer.name())
-        doubt = f" Look at {', '.join(in_doubt)}: save your last edit, or give it up if it is there." if in_doubt else ""
-        self.teller.tell(f"The store's server answers again.{doubt}", Qgis.Warning if in_doubt else Qgis.Info)
+        doubt = f"Look at {', '.join(in_doubt)}: save your last edit, or give it up if it is there. " if in_doubt else ""
+        self.teller.tell(f"{doubt}The store's server answers again.", Qgis.Warning if in_doubt else Qgis.Info)
 
 
 @contextlib.contextmanager
@@ -534,9 +599,10 @@ def _title(source: provider.Source) -> str:
 
 
 def _update_fields(layer: QgsVectorLayer) -> None:
-    """Has a layer that is there still, with the plugin or without, take over the fields of its provider."""
+    """Has a layer that is there still, with the plugin or without, take over the fields of its provider, and what forms offer."""
     if not sip.isdeleted(layer):
         layer.updateFields()
+        _follow_widgets(layer)
 
 
 def _set_precision(editing: Editing) -> None:
@@ -553,6 +619,20 @@ def _keep_identifiers(layer: QgsVectorLayer) -> None:
     layer.setEditFormConfig(forms)
 
 
+def _follow_widgets(layer: QgsVectorLayer) -> None:
+    """Has forms offer what rules say now: a layer keeps the lists that there were, and a project those when it was saved."""
+    theirs = layer.dataProvider().fields()
+    for at, field in enumerate(layer.fields()):
+        place = theirs.indexOf(field.name())
+        if place < 0:
+            continue
+        mine, wanted = layer.editorWidgetSetup(at), theirs[place].editorWidgetSetup()
+        is_other = (mine.type(), mine.config()) != (wanted.type(), wanted.config())
+        # What somebody has chosen for a field stays.
+        if is_other and (mine.isNull() or is_widget_of_rules(mine)):
+            layer.setEditorWidgetSetup(at, wanted)
+
+
 def _take_back(editing: Editing) -> None:
     """Takes those edits of a layer back that were made since all before them was sent."""
     editing.is_sending = True
@@ -560,5 +640,8 @@ def _take_back(editing: Editing) -> None:
         stack = editing.layer.undoStack()
         while stack.index() > editing.base:
             stack.undo()
+        if not editing.base:
+            # Nothing of it can be redone. The store's steps are behind QGIS' undo where QGIS has none of its own.
+            stack.clear()
     finally:
         editing.is_sending = False

@@ -22,15 +22,18 @@ from qgis.core import (
     QgsProviderRegistry,
     QgsVectorDataProvider,
 )
+from qgis.PyQt.QtCore import NULL
 
 from sfstore.exchange.grid import Rounding
+from sfstore.results import Column
 from sfstore.web.client import CallFailed, ServerGone
 
-from .fields import IDENTIFIER, columns_of, names_of
+from .fields import IDENTIFIER, columns_of
 from .session import LayerRefused, Session
-from .told import as_shown, words_of
-from .values import FORMS
-from .writing import NOT_GIVEN, Edits, Line, NotSent, added_numbers, lines_of, wkt_of
+from .told import as_shown
+from .values import FORMS, why_not_meant
+from .words import words_of
+from .writing import NOT_GIVEN, Edits, Line, NotSent, added_numbers, is_emptied, is_none, lines_of, wkt_of
 
 __all__ = ["KEY", "Outcome", "Provider", "Source", "register", "source_of"]
 
@@ -194,14 +197,18 @@ class Provider(QgsVectorDataProvider):
         fields = self.fields()
         names = [fields[at].name() for at in sorted(set(indexes)) if 0 <= at < len(fields)]
         if IDENTIFIER in names:
-            self.pushError("The identifier can't be taken away.")
+            self.pushError(f"Leave {IDENTIFIER} there: it has the numbers that the store gives to features.")
             return False
         return self._done(Edits(dropped=names), lambda _: self.mirror.drop_columns(names))
 
     def _named(self, values: Mapping[int, Any]) -> dict[str, Any]:
         """Values by the names of their fields, of places in the provider."""
-        names = names_of(self.fields())
-        return {name: value for at, value in values.items() if at < len(names) and (name := names[at]) is not None}
+        columns = columns_of(self.fields())
+        return {
+            column.name: NULL if is_emptied(value, column) else value
+            for at, value in values.items()
+            if at < len(columns) and (column := columns[at]) is not None
+        }
 
     def wkt(self, geometry: QgsGeometry) -> str:
         """The text of a geometry in steps of the grid."""
@@ -210,7 +217,25 @@ class Provider(QgsVectorDataProvider):
     def lines(self, edits: Edits, fields: QgsFields, rounding: Rounding) -> list[Line]:
         """The lines of edits of a layer with these fields. `NotSent` where an edit has none."""
         self.mirror.fields.check()
-        return lines_of(self.mirror.written(columns_of(fields)), edits, rounding)
+        columns = columns_of(fields)
+        self._check_meant(edits, columns)
+        return lines_of(self.mirror.written(columns), edits, rounding)
+
+    def _check_meant(self, edits: Edits, columns: Sequence[Column | None]) -> None:
+        """`NotSent` where QGIS' own fields would change a text that nobody has typed in: forms and tables give back what these keep."""
+        texts = {at: column.name for at, column in enumerate(columns) if column is not None and column.type == "text"}
+        for fid, values in edits.values.items():
+            for at, found in values.items():
+                stored = self._stored(fid, texts[at]) if at in texts else None
+                why = why_not_meant(None if is_none(found) else found, stored) if isinstance(stored, str) else ""
+                if why:
+                    name = f"{texts[at]} of {self.source.layer} {self.mirror.numbers[fid]}"
+                    raise NotSent(f"Change this feature at the console or on the page: {name} {why}, so its forms and tables change it")
+
+    def _stored(self, fid: int, name: str) -> Any:
+        """The value that a feature has in the store, by QGIS' number of it; none in a column that is not sent yet."""
+        feature = self.mirror.memory_feature(self.mirror.numbers[fid])
+        return feature.attribute(name) if feature.isValid() and feature.fieldNameIndex(name) >= 0 else None
 
     def check_fields_may_change(self, layer: str = "") -> None:
         """`NotSent` where other layers over this one's features have edits that were not sent: they count its fields.
@@ -219,8 +244,8 @@ class Provider(QgsVectorDataProvider):
         """
         if self.mirror.has_steps(but=layer):
             raise NotSent(
-                f"{self.source.layer} is edited in another layer of the project too: "
-                "save that one, or give its edits up, before fields are added or deleted"
+                f"Save the other layer of {self.source.layer} first, or give its edits up: "
+                "the fields of one that is edited in another layer of the project too can't change"
             )
 
     def _done(self, edits: Edits, follow: Callable[[Sequence[tuple[int, int]]], object]) -> bool:
@@ -229,7 +254,7 @@ class Provider(QgsVectorDataProvider):
             numbers = self._numbers(edits)
         except Exception as error:
             # QGIS shows it in its message bar too.
-            self.pushError(as_shown(words_of(error)))
+            self.pushError(as_shown(words_of(error, self.session.grid)))
             return False
         try:
             follow(numbers)

@@ -6,21 +6,23 @@ import contextlib
 import os
 import secrets
 from collections.abc import Iterator, Sequence
-from typing import Any, ClassVar
+from typing import Any, ClassVar, NamedTuple
 
 from qgis.core import QgsCoordinateReferenceSystem, QgsMessageLog, QgsSettings
 from qgis.PyQt.QtCore import QObject, QSocketNotifier, QThread, QTimer, pyqtSignal
 
 from sfstore import journal, sidecar
-from sfstore.commandline import reason_of
 from sfstore.exchange.grid import Grid
+from sfstore.mapgrid import MapGrid
 from sfstore.results import Column
+from sfstore.web.changes import renamed_by
 from sfstore.web.client import CallFailed, Client, Events, ServerGone, start_server
 
 from .following import Followed, followed
 from .mirror import WKB_NAMES, Mirror
+from .values import Choice, choice_of
 
-__all__ = ["LayerRefused", "Refusal", "Session"]
+__all__ = ["LayerRefused", "Refusal", "Session", "Style"]
 
 # How long QGIS waits for a call at most, and for a server that is asked again whether it is there.
 CALL_SECONDS = 5.0
@@ -53,17 +55,40 @@ class LayerRefused(Exception):
     """A layer can't be shown. The text says why."""
 
 
+class Style(NamedTuple):
+    """How a layer looks in QGIS, as the store has it: nothing where it says nothing."""
+
+    qml: str | None
+    by: str | None
+    """Who has saved it."""
+    mark: str | None
+    """A short text that another style does not have."""
+
+
+class _Placing(NamedTuple):
+    """Where the steps of a store lie on the map."""
+
+    fault: str
+    """Why that is not known, in a sentence; empty where it is, and where coordinates are steps."""
+    grid: Grid
+    crs: Any
+    mark: str
+    """That of its grid, by which the server knows it."""
+
+
 class Session(QObject):
     """A store's file in this QGIS. `ServerGone` where no server of it can be had."""
 
     edited = pyqtSignal(dict)
     """An edit, or an undo, of whomever: as the server tells it, with the version ``before``, and whether it ``is_own``."""
-    layers_changed = pyqtSignal()
-    """There are other layers than before."""
+    layers_changed = pyqtSignal(object, str)
+    """There are other layers than before: the two names of one that was renamed, or None, and who did it."""
     placed_anew = pyqtSignal()
     """The grid or the reference system is another one: another map was put in the place of the store."""
     kind_hidden = pyqtSignal(str, str)
     """A layer of any kind has a geometry of a kind that is not shown."""
+    styled = pyqtSignal(str, str, str, str)
+    """Somebody has saved another style for a layer, or for a kind of its geometries, or taken it away: layer, kind, mark or nothing, and who."""
     lost = pyqtSignal()
     """The server does not answer any more. It is tried again."""
     renewed = pyqtSignal()
@@ -78,7 +103,7 @@ class Session(QObject):
         path = os.path.realpath(path)
         if path not in Session.open:
             if not os.path.isfile(path) and not os.path.isfile(journal.path_of(path)):
-                raise LayerRefused(f"{path} is no store that is there")
+                raise LayerRefused(f"Choose a store that is there: there is none at {path}.")
             Session.open[path] = Session(path)
         return Session.open[path]
 
@@ -91,11 +116,13 @@ class Session(QObject):
     def __init__(self, path: str) -> None:
         super().__init__()
         self.path = path
-        self.placing_fault, self.grid, self.crs = _placed(path)
+        self._placing = _placed(path)
         self.mirrors: dict[tuple[str, str], Mirror] = {}
         self.steps: dict[str, dict[str, Any] | None] = {"undo": None, "redo": None}
         self._hidden: set[tuple[str, str]] = set()
         self.version = 0
+        self.changes = 0
+        """Rises with whatever is changed from here, or heard of: what the store said before may not be so any more."""
         # The versions that this session's own batches have made: the mirrors have them.
         self._own: set[int] = set()
         self._client: Client | None = None
@@ -108,6 +135,21 @@ class Session(QObject):
         # A large store takes its time until it is loaded.
         start_server(path, Session.program, _STARTING_SECONDS)
         self._connect(_STARTING_SECONDS)
+
+    @property
+    def grid(self) -> Grid:
+        """The grid of the store: steps of 1 where its side-car says nothing."""
+        return self._placing.grid
+
+    @property
+    def crs(self) -> Any:
+        """The reference system of the store, as QGIS has it."""
+        return self._placing.crs
+
+    @property
+    def placing_fault(self) -> str:
+        """Why grid and reference system are not known, in sentences; empty where they are, and where there are none."""
+        return self._placing.fault
 
     @property
     def editor(self) -> int:
@@ -135,6 +177,11 @@ class Session(QObject):
             if each["name"] == layer:
                 return [Column(column["name"], column["type"]) for column in each["columns"]]
         return []
+
+    def choices(self, layer: str) -> dict[str, Choice]:
+        """What rules say of the values in the columns of a layer, by their names."""
+        columns = [column for each in self.layers() if each["name"] == layer for column in each["columns"]]
+        return {column["name"]: choice_of(column) for column in columns}
 
     def kinds(self, layer: str) -> list[str]:
         """The kinds of geometries that a layer of any kind is shown by: those of one part, and others that it has."""
@@ -176,17 +223,17 @@ class Session(QObject):
         """The mirror of a layer, or of one kind of a layer that takes any. `LayerRefused` where there is none."""
         if (layer, kind) not in self.mirrors:
             if QThread.currentThread() != self.thread():
-                raise LayerRefused(f"{layer} is not open yet, and can be opened by QGIS' main thread alone")
+                raise LayerRefused(f"Open the store first: {layer} is not open yet, and nothing that runs in the background can open it.")
             self.mirrors[layer, kind] = self._made(layer, kind)
         return self.mirrors[layer, kind]
 
     def _made(self, layer: str, kind: str) -> Mirror:
         found = next((each for each in self.layers() if each["name"] == layer), None)
         if found is None:
-            raise LayerRefused(f"{self.path} has no layer {layer}")
+            raise LayerRefused(f"Open the store again: {self.path} has no layer {layer}.")
         shown = kind or found["kind"]
         if shown not in WKB_NAMES:
-            raise LayerRefused(f"{layer} has geometries of any kind: name one, as by |geometrytype=polygon")
+            raise LayerRefused(f"Open the store again: {layer} has geometries of any kind, and is shown as a layer for each. An address names one by |geometrytype=polygon.")
         return Mirror(self, layer, shown, [Column(column["name"], column["type"]) for column in found["columns"]])
 
     def batch(self, lines: Sequence[str], seen: Sequence[int | None], corners: Sequence[list[Any]] = ()) -> list[str]:
@@ -197,9 +244,10 @@ class Session(QObject):
         """
         seconds = CALL_SECONDS + len(lines) * _LINE_SECONDS + len(corners) * _CORNER_SECONDS
         fitting = {"corners": list(corners), "shown": self.version} if 0 < len(corners) <= CORNERS_MAX else {}
-        answer = self.call("batch", seconds, page=self._token, lines=list(lines), seen=list(seen), **fitting)
+        answer = self.call("batch", seconds, page=self._token, lines=list(lines), seen=list(seen), grid=self._placing.mark, **fitting)
         if "refused" in answer:
             raise Refusal(answer["refused"])
+        self.changes += 1
         self._own.add(answer["version"])
         self._follow_soon(answer.get("beside", []))
         found: list[str] = answer["answers"]
@@ -208,10 +256,31 @@ class Session(QObject):
     def line(self, line: str) -> dict[str, Any]:
         """The answer of a line of the console. `Refusal` where it is refused."""
         seconds = _LONG_SECONDS if line in ("undo", "redo", "save") else CALL_SECONDS
-        answer = self.call("line", seconds, page=self._token, line=line, seen=self.version)
+        answer = self.call("line", seconds, page=self._token, line=line, seen=self.version, grid=self._placing.mark)
         if "refused" in answer:
             raise Refusal(answer["refused"])
         return answer
+
+    def has_layer(self, layer: str) -> bool:
+        """Whether the store has a layer of this name now."""
+        return any(each["name"] == layer for each in self.layers())
+
+    def style(self, layer: str, kind: str) -> Style:
+        """How a layer, or one kind of its geometries, looks in QGIS as the store has it. `LayerRefused` where the file of the styles is damaged."""
+        told = self.call("qml", layer=layer, kind=kind)
+        if told["fault"]:
+            raise LayerRefused(told["fault"])
+        return Style(told["qml"], told["by"], told["mark"])
+
+    def save_style(self, layer: str, kind: str, qml: str | None, seen: str | None) -> tuple[str | None, list[str]]:
+        """Has the store keep a style in the place of the one whose mark was seen, or none.
+
+        Gives its mark, and the layers that were dropped and have lost their styles, as there was no room for them.
+        """
+        answer = self.call("save-qml", layer=layer, kind=kind, qml=qml, seen=seen)
+        if "refused" in answer:
+            raise Refusal(answer["refused"])
+        return answer["mark"], answer.get("gave_way", [])
 
     def note_kind(self, layer: str, kind: str) -> None:
         """Notes a geometry of a layer of any kind, which may be of one that is not shown yet."""
@@ -251,7 +320,7 @@ class Session(QObject):
 
     def _connected(self) -> Client:
         if self._client is None:
-            raise ServerGone(f"The server of {os.path.basename(self.path)} does not answer; it is tried again.")
+            raise ServerGone(f"Wait a moment: the server of {os.path.basename(self.path)} does not answer, and is tried again.")
         return self._client
 
     def _connect(self, seconds: float) -> None:
@@ -264,7 +333,7 @@ class Session(QObject):
             events = client.events()
             # From its first line on nothing is missed: what the store is now is asked behind it.
             if not events.wait(min(seconds, CALL_SECONDS)):
-                raise ServerGone(f"The server of {os.path.basename(self.path)} does not answer.")
+                raise ServerGone(f"Open the store again in a moment: the server of {os.path.basename(self.path)} does not answer.")
             client.seconds = seconds
             told = client.call("map")
         except BaseException:
@@ -274,6 +343,7 @@ class Session(QObject):
         self._token = secrets.token_urlsafe(12)
         self._client, self._events = client, events
         self._own.clear()
+        self.changes += 1
         self.version = told["version"]
         self.steps = {"undo": told["undo"], "redo": told["redo"]}
         self._notifier = QSocketNotifier(events.fileno(), QSocketNotifier.Read)
@@ -301,12 +371,7 @@ class Session(QObject):
         try:
             start_server(self.path, Session.program, 0.0)
             self._connect(_AGAIN_SECONDS)
-            is_moved = self._place_anew()
-            for mirror in self.mirrors.values():
-                if is_moved:
-                    mirror.begin_anew("The store has another grid or reference system than before, and was read anew.")
-                else:
-                    mirror.load_anew()
+            self._load_anew()
         except (CallFailed, Refusal, ServerGone):
             self._disconnect()
             self._wait = min(2 * self._wait, _AGAIN_MILLISECONDS_MAX)
@@ -314,12 +379,21 @@ class Session(QObject):
         else:
             self.renewed.emit()
 
+    def _load_anew(self) -> None:
+        """Has all mirrors read anew what the store is now, be it on another grid."""
+        is_moved = self._place_anew()
+        for mirror in self.mirrors.values():
+            if is_moved:
+                mirror.begin_anew("the store has another grid or reference system than before.")
+            else:
+                mirror.load_anew()
+
     def _place_anew(self) -> bool:
         """Takes the grid and the reference system that the store has now. Whether they are others than before."""
-        fault, grid, crs = _placed(self.path)
-        if (grid.words, crs) == (self.grid.words, self.crs):
+        placing = _placed(self.path)
+        if placing.mark == self._placing.mark:
             return False
-        self.placing_fault, self.grid, self.crs = fault, grid, crs
+        self._placing = placing
         self.placed_anew.emit()
         return True
 
@@ -329,6 +403,7 @@ class Session(QObject):
             return
         try:
             news = self._events.take()
+            self.changes += len(news)
             self._follow(followed(news, self._own))
             for event in news:
                 self._note(event)
@@ -338,14 +413,15 @@ class Session(QObject):
 
     def _follow(self, news: Followed) -> None:
         if news.is_anew:
-            for mirror in self.mirrors.values():
-                mirror.load_anew()
+            self._load_anew()
             return
         for (layer, _), mirror in self.mirrors.items():
             if layer in news.whole:
                 mirror.load_anew()
             elif layer in news.features:
                 mirror.follow(news.features[layer])
+        for mirror in self.mirrors.values() if news.are_ruled else ():
+            mirror.follow_rules()
 
     def _note(self, event: dict[str, Any]) -> None:
         """Notes what an event says of the history, and passes it on."""
@@ -356,12 +432,14 @@ class Session(QObject):
         for verb in self.steps:
             if verb in event:
                 self.steps[verb] = event[verb]
+        if "qgis_styled" in event:
+            self.styled.emit(event["qgis_styled"], event["kind"], event["mark"] or "", event["editor"])
         if "changed" in event:
             before, self.version = self.version, event["version"]
             self._own.discard(self.version)
             self.edited.emit({**event, "before": before, "is_own": event["page"] == self._token})
             if any(change["what"] == "layers" for change in event["changed"]):
-                self.layers_changed.emit()
+                self.layers_changed.emit(renamed_by(event["line"], event["step"]), event["editor"])
 
 
 def _checked(answer: dict[str, Any]) -> dict[str, Any]:
@@ -373,15 +451,13 @@ def _checked(answer: dict[str, Any]) -> dict[str, Any]:
     raise Refusal(answer["refused"])
 
 
-def _placed(path: str) -> tuple[str, Grid, Any]:
+def _placed(path: str) -> _Placing:
     """The grid and the reference system of a store, as its side-car says: steps of 1 where it says nothing, and why."""
-    if not os.path.exists(sidecar.path_of(path)):
-        return "", Grid("0", "0", "1"), QgsCoordinateReferenceSystem()
-    try:
-        found = sidecar.read(path)
-    except (OSError, sidecar.SidecarError) as error:
-        return f"{reason_of(error)}. Coordinates are shown in steps.", Grid("0", "0", "1"), QgsCoordinateReferenceSystem()
-    return "", Grid(*found.grid), _system(found.crs)
+    known = MapGrid(path)
+    fault = f"{known.fault}." if known.fault else ""
+    if known.found is None:
+        return _Placing(fault, Grid("0", "0", "1"), QgsCoordinateReferenceSystem(), known.mark)
+    return _Placing(fault, Grid(*known.found.grid), _system(known.found.crs), known.mark)
 
 
 def _system(crs: sidecar.Crs | None) -> Any:

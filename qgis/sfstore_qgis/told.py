@@ -1,55 +1,33 @@
-"""What is told to the person who edits: refusals in words, with their places in the units of the map."""
+"""How it is told to the person who edits: in the message bar, with marks on the map."""
 
 from __future__ import annotations
 
 import html
-import re
+import math
 from collections.abc import Callable, Iterable
-from fractions import Fraction
 from functools import partial
 from typing import Any
 
 from qgis.core import Qgis, QgsCoordinateTransform, QgsGeometry, QgsPointXY, QgsProject, QgsRectangle
 from qgis.gui import QgsRubberBand, QgsVertexMarker
+from qgis.PyQt.QtCore import QEvent, QObject
 from qgis.PyQt.QtGui import QColor
-from qgis.PyQt.QtWidgets import QPushButton
+from qgis.PyQt.QtWidgets import QPushButton, QTextBrowser
 
-from sfstore.commandline import reason_of
 from sfstore.exchange.grid import Grid
 from sfstore.geometry import Shape, write_wkb
 
 from .session import Refusal, Session
+from .words import points_of, words_of
 
-__all__ = ["Breaking", "Teller", "as_shown", "breaking_of", "geometry_of", "place_of", "points_of", "words_of"]
+__all__ = ["Breaking", "Teller", "as_shown", "breaking_of", "geometry_of"]
 
 Breaking = tuple[str, int]
 """A feature that would break a rule: its layer and its identifier in the store."""
 
-_POINT = re.compile(r"\((-?[0-9]+(?:/[0-9]+)?) (-?[0-9]+(?:/[0-9]+)?)\)")
 _MARKER_PIXELS, _PEN_PIXELS = 18, 3
 _SHOWN_SECONDS = 10
 _REFUSED, _REFUSED_FILL = QColor(220, 0, 0), QColor(220, 0, 0, 40)
-
-
-def words_of(error: Exception, place: str = "") -> str:
-    """Why something was not done, in words: the place before what helps, as a bar may show the beginning alone."""
-    if not isinstance(error, Refusal):
-        return reason_of(error)
-    told = error.told
-    whose = f" ({told['whose']['editor']}: {told['whose']['line']})" if told.get("whose") else ""
-    reason = f"{told['reason']}{whose}{f', {place}' if place else ''}{_rule_words(told)}"
-    return f"Refused ({told['number']} {told['name']}): {reason}. {told['help']}"
-
-
-def _rule_words(told: dict[str, Any]) -> str:
-    """The rule that would be broken, and the features that would break it; empty where that is not known."""
-    if not told.get("broken"):
-        return ""
-    name, _, says = told["broken"]["rule"].partition(" ")
-    by = " and ".join(
-        f"{each['layer']} {each['id']}{'' if 'members' in each else ' (new)'}" for each in told["broken"]["features"]
-    )
-    return f", {name} ({says}), by {by}"
 
 
 def as_shown(text: str) -> str:
@@ -61,26 +39,6 @@ def breaking_of(error: Exception) -> list[Breaking]:
     """The features that would break a rule, of those that are there."""
     found = error.told.get("broken") if isinstance(error, Refusal) else None
     return [(each["layer"], each["id"]) for each in found["features"] if "members" in each] if found else []
-
-
-def place_of(error: Exception, grid: Grid) -> str:
-    """Where a refused geometry is wrong, in words with the coordinates of the map; empty where that is not known."""
-    place = error.told.get("place") if isinstance(error, Refusal) else None
-    if not place:
-        return ""
-
-    def in_map(found: re.Match[str]) -> str:
-        x, y = map(float, grid.exact(Fraction(found[1]), Fraction(found[2])))
-        return f"({x:.10g} {y:.10g})"
-
-    return _POINT.sub(in_map, place["words"])
-
-
-def points_of(error: Exception, grid: Grid) -> list[tuple[float, float]]:
-    """The points at which a refused geometry is wrong, in the units of the map."""
-    place = error.told.get("place") if isinstance(error, Refusal) else None
-    points = (grid.exact(Fraction(x), Fraction(y)) for x, y in place["points"]) if place else ()
-    return [(float(x), float(y)) for x, y in points]
 
 
 def geometry_of(error: Exception, grid: Grid) -> QgsGeometry | None:
@@ -103,6 +61,32 @@ def _in_map(told: dict[str, Any], grid: Grid) -> QgsGeometry:
     return geometry
 
 
+class _Whole(QObject):
+    """Has the text of a message be as high as it is, in a window of any width: QGIS shows a line and a half of it."""
+
+    def __init__(self, browser: QTextBrowser) -> None:
+        super().__init__(browser)
+        self._browser = browser
+        self._sheet = browser.styleSheet()
+        self._height = 0
+        # What the text stands in: it has its width when it hears of it.
+        browser.viewport().installEventFilter(self)
+        self._fit()
+
+    def eventFilter(self, watched: QObject, event: QEvent) -> bool:
+        if event.type() == QEvent.Resize:
+            self._fit()
+        return False
+
+    def _fit(self) -> None:
+        text = self._browser.document().clone()
+        text.setTextWidth(self._browser.viewport().width())
+        height = math.ceil(text.size().height())
+        if height != self._height:
+            self._height = height
+            self._browser.setStyleSheet(f"{self._sheet} QTextEdit {{ min-height: {height}px; max-height: {height}px; }}")
+
+
 class Teller:
     """The message bar, and marks on the map."""
 
@@ -110,40 +94,51 @@ class Teller:
         self._iface = iface
         self._select = select
         self._markers: list[Any] = []
+        # What was said of the last refusal, until something is done that is not refused.
+        self._refusal: Any = None
 
-    def tell(self, text: str, level: Any = Qgis.Info) -> None:
+    def tell(self, text: str, level: Any = Qgis.Info) -> Any:
         """Says something for some seconds; what is critical until it is closed."""
-        seconds = 0 if level == Qgis.Critical else _SHOWN_SECONDS
-        self._iface.messageBar().pushMessage("sfstore", as_shown(text), level, seconds)
+        item = self._iface.messageBar().createMessage("sfstore", as_shown(text))
+        return self._push(item, level, 0 if level == Qgis.Critical else _SHOWN_SECONDS)
 
     def refuse(self, layer: str, error: Exception, session: Session) -> None:
         """Says why an edit was not taken, shows what was refused, and marks the place."""
         self.clear()
-        text = f"{layer}: {words_of(error, place_of(error, session.grid))}"
+        text = words_of(error, session.grid, layer)
         refused = geometry_of(error, session.grid)
         breaking = _breaking_geometries(error, session.grid)
         if breaking:
-            self._tell_with_button(text, partial(self._visit, session, breaking_of(error), breaking))
+            self._refusal = self._tell_with_button(text, partial(self._visit, session, breaking_of(error), breaking))
         else:
-            self.tell(text, Qgis.Critical)
+            self._refusal = self.tell(text, Qgis.Critical)
         for geometry in [*breaking, *([] if refused is None else [refused])]:
             self._show(geometry, session.crs)
         self._mark(points_of(error, session.grid), session.crs)
 
     def clear(self) -> None:
-        """Takes the marks away."""
+        """Takes the last refusal away, and its marks."""
+        bar, refusal, self._refusal = self._iface.messageBar(), self._refusal, None
+        if refusal is not None and refusal in bar.items():
+            bar.popWidget(refusal)
         for marker in self._markers:
             self._iface.mapCanvas().scene().removeItem(marker)
         self._markers.clear()
 
-    def _tell_with_button(self, text: str, act: Callable[[], object]) -> None:
+    def _tell_with_button(self, text: str, act: Callable[[], object]) -> Any:
         """Says something that is critical, with a button that shows what it is about."""
-        bar = self._iface.messageBar()
-        item = bar.createMessage("sfstore", as_shown(text))
+        item = self._iface.messageBar().createMessage("sfstore", as_shown(text))
         button = QPushButton("Show them", item)
         button.clicked.connect(lambda *_: act())
         item.layout().addWidget(button)
-        bar.pushWidget(item, Qgis.Critical, 0)
+        return self._push(item, Qgis.Critical, 0)
+
+    def _push(self, item: Any, level: Any, seconds: int) -> Any:
+        """Shows a message, all of it."""
+        self._iface.messageBar().pushWidget(item, level, seconds)
+        for browser in item.findChildren(QTextBrowser):
+            _Whole(browser)
+        return item
 
     def _visit(self, session: Session, features: list[Breaking], geometries: list[QgsGeometry]) -> None:
         """Selects features, and moves the map to them."""

@@ -18,7 +18,7 @@ from sfstore.results import Column
 from .fields import IDENTIFIER
 from .values import column_type_of, spelling_of, told
 
-__all__ = ["NOT_GIVEN", "Edits", "Layer", "Line", "NotSent", "added_numbers", "corners_of", "lines_of", "wkt_of"]
+__all__ = ["NOT_GIVEN", "Edits", "Layer", "Line", "NotSent", "added_numbers", "checked_name", "corners_of", "is_emptied", "is_none", "lines_of", "wkt_of"]
 
 NOT_GIVEN = "Autogenerate"
 """What QGIS shows in the field of an identifier that is not given yet."""
@@ -82,7 +82,7 @@ def lines_of(layer: Layer, edits: Edits, rounding: Rounding) -> list[Line]:
     for added in edits.added:
         lines.append(Line(f"add {name} {wkt_of(added.geometry(), layer, rounding)}", None, added.id()))
         # A new feature has no values that had to be cleared.
-        values = {at: value for at, value in enumerate(added.attributes()) if not _is_none(value)}
+        values = {at: value for at, value in enumerate(added.attributes()) if not is_none(value)}
         settings = _settings(layer, "last", values, layer.known)
         lines += [Line(text, column=None if column in own else column) for column, text in settings]
     return lines
@@ -96,18 +96,18 @@ def added_numbers(lines: Sequence[Line], answers: Sequence[str]) -> list[tuple[i
 def wkt_of(geometry: QgsGeometry, layer: Layer, rounding: Rounding) -> str:
     """The text of a geometry in steps of the grid: each coordinate is moved to the nearest one."""
     if geometry.isNull():
-        raise NotSent("a feature without a geometry has no place in the store: draw one")
+        raise NotSent("Draw one: a feature without a geometry has no place in the store")
     try:
         shape = read_wkb(bytes(_fitted(geometry, layer.kind).asWkb()))
         steps = shape.mapped(lambda line: layer.grid.steps(line, rounding))
     except NotTaken as error:
-        raise NotSent(f"the store takes no such geometry: {error}") from None
+        raise NotSent(f"Draw it with straight sides, in x and y alone: the store takes no other geometry, and this is {error}") from None
     except (Outside, OffGrid) as error:
-        raise NotSent(f"{error} is further from the origin of the grid than the store reaches") from None
+        raise NotSent(f"Draw it nearer to the map: {error} is further from the origin of the grid than the store reaches") from None
     except struct.error as error:
-        raise NotSent(f"the geometry can't be read: {error}") from None
+        raise NotSent(f"Draw it anew: its geometry can't be read, {error}") from None
     if not all(layer.grid.tells_apart(line) for member in shape.members for line in member):
-        raise NotSent("the step of the grid is finer than QGIS' doubles are there, and points would move: edit it on the page")
+        raise NotSent("Edit it on the page: the step of the grid is finer than QGIS' numbers are there, and points would move")
     return write_wkt(steps)
 
 
@@ -146,16 +146,17 @@ def _column(field: QgsField) -> str:
     column_type = column_type_of(field)
     if column_type is None:
         raise NotSent(
-            f"{field.name()}: the store has no columns of this type. For numbers with a fraction take Decimal, which is exact"
+            f"Take another type for {field.name()}: the store has no columns of this one. For numbers with a fraction there is Decimal, which is exact"
         )
-    return f"{_checked_name(field.name())} {column_type}"
+    return f"{checked_name(field.name())} {column_type}"
 
 
-def _checked_name(name: str) -> str:
+def checked_name(name: str) -> str:
+    """A name that a layer or a column can have. `NotSent` where it is none."""
     try:
         return spelling.name(name)
-    except ValueError as error:
-        raise NotSent(str(error)) from None
+    except ValueError:
+        raise NotSent(f"Take another name than {name!r}: it has 1 to 32 letters from A to Z, digits and underscores, a letter first") from None
 
 
 def _settings(
@@ -172,7 +173,7 @@ def _settings(
             continue
         if column.name == IDENTIFIER:
             _check_number(found, numbers)
-        elif _is_none(found):
+        elif is_emptied(found, column):
             lines.append((column.name, f"unset {layer.name} {feature} {column.name}"))
         else:
             lines.append((column.name, f"set {layer.name} {feature} {column.name} {_value(found, column)}"))
@@ -181,15 +182,21 @@ def _settings(
 
 def _check_number(found: Any, numbers: Container[int]) -> None:
     if found != NOT_GIVEN and found not in numbers:
-        raise NotSent(f"{IDENTIFIER} can't be set to {found}: it is the store that numbers features")
+        raise NotSent(f"Leave {IDENTIFIER} as it is: the store numbers features, and it can't be set to {found}")
 
 
-def _is_none(found: Any) -> bool:
+def is_none(found: Any) -> bool:
+    """Whether QGIS has no value there."""
     return found is None or bool(found == NULL)
+
+
+def is_emptied(found: Any, column: Column) -> bool:
+    """Whether there is no value for a column: of times and numbers an emptied field of one line has an empty text."""
+    return is_none(found) or (found == "" and column.type not in ("text", "decimal"))
 
 
 def _value(found: Any, column: Column) -> str:
     try:
         return spelling_of(found, column.type)
     except (TypeError, ValueError) as error:
-        raise NotSent(f"{column.name} can't be {told(found)}: {error}") from None
+        raise NotSent(f"Type another value: {column.name} can't be {told(found)}, {error}") from None

@@ -6,6 +6,7 @@ import configparser
 import os
 import re
 import shutil
+import stat
 import subprocess
 import sys
 import tempfile
@@ -49,20 +50,25 @@ class Plugin(unittest.TestCase):
         self.folder = Path(folder.name)
 
     def test_the_version_is_that_of_the_package(self):
-        told = configparser.ConfigParser()
-        told.read(plugin.PLUGIN / "metadata.txt")
-        self.assertEqual(told["general"]["version"], VERSION)
+        self.assertEqual(self.metadata()["version"], VERSION)
         for page in (TOP / "docs").rglob("*.md"):
             for named in re.findall(r"qgis-plugin-sfstore_([0-9.]+)_all\.deb", page.read_text()):
                 self.assertEqual(named, VERSION, page.name)
+
+    def metadata(self):
+        told = configparser.ConfigParser()
+        told.read(plugin.PLUGIN / "metadata.txt")
+        return told["general"]
 
     def test_the_zip_has_one_folder_with_all_modules_and_is_the_same_each_time(self):
         path = plugin.zipped(VERSION)
         first = path.read_bytes()
         with zipfile.ZipFile(path) as made:
             names = set(made.namelist())
-        expected = {f"sfstore_qgis/{file.name}" for file in plugin.PLUGIN.iterdir() if file.suffix in (".py", ".txt")}
+        there = [file.relative_to(plugin.PLUGIN) for file in plugin.PLUGIN.rglob("*") if "__pycache__" not in file.parts]
+        expected = {f"sfstore_qgis/{file}" for file in there if file.suffix}
         self.assertEqual(names, expected)
+        self.assertIn(f"sfstore_qgis/{self.metadata()['icon']}", names)
         self.assertIn("sfstore_qgis/metadata.txt", names)
         self.assertEqual(plugin.zipped(VERSION).read_bytes(), first)
 
@@ -77,6 +83,9 @@ class Plugin(unittest.TestCase):
         self.assertIn(f"sfstore (= {VERSION})", fields)
         subprocess.run(["dpkg-deb", "--extract", package, there], check=True)
         self.assertTrue((there / plugin.PLACE / "metadata.txt").is_file())
+        self.assertTrue((there / plugin.PLACE / self.metadata()["icon"]).is_file())
+        modes = {stat.S_IMODE(path.stat().st_mode) for path in (there / plugin.PLACE).rglob("*")}
+        self.assertEqual(modes, {0o644, 0o755})
         self.assertTrue((there / plugin.DOCUMENTS / "copyright").is_file())
         subprocess.run(["dpkg-deb", "--control", package, there], check=True)
         self.assertTrue(os.access(there / "prerm", os.X_OK))

@@ -258,9 +258,23 @@ VALUE_RULES = [
     "unset p 3 n",
     "set p 3 k 7",
     "find p k 7",
+    "find p k 6 to 8",
+    "find p n 'another' to 'c'",
+    "rule add texts one-of p n 'c', 'd', 'another long text that takes memory of its own', E'a\\nb'",
+    "rule add some range p k to 8",
+    "set p 2 k 9",
+    "set p 3 n 'z'",
+    "set p 3 n E'a\\nb'",
     "column drop p n",
     "layer rename p q",
     "rules",
+    "undo",
+    "rule drop texts",
+    "undo",
+    "redo",
+    "undo",
+    "undo",
+    "undo",
     "undo",
     "undo",
     "undo",
@@ -303,7 +317,7 @@ AFTER_FIRST = [REFUSED, ["rows 1", "label text"], LABELS_SHOWN, ["ok"], ["rows 2
 
 # A store of several layers, with values and all kinds, and what is asked of it once it was loaded.
 POINTS = [f"add m POINT ({place % 6} {place // 6})" for place in range(COUNT)]
-STORED = [*VALUES[:-2], *EDITS[:-3], "layer add m point", *POINTS, "rule add single never m equals m"]
+STORED = [*VALUES[:-2], *EDITS[:-3], "layer add m point", *POINTS, "rule add single never m equals m", "rule add priced range a price -900.25 to", "rule add labels one-of a label 'x', E'a\\nb''s\\x1b'"]
 ASKED = """\
 layers
 columns w

@@ -7,8 +7,8 @@ Before and behind it, where memory is ample, the program asks what only the libr
   features, each done, undone and redone.
 - A line that was refused has left rows, columns, depths and index as they were.
 - A line that was accepted stands. If its index was given up, queries find what the rows have, and search exactly the
-  features whose boxes meet the given geometry's, or all if no contact is asked for. A look, a refused edit and an edit
-  of another layer leave the layer without an index. The next edit, undo or redo that names it builds the index anew,
+  features whose boxes meet the given geometry's, or all if no contact is asked for. A look, a refused edit, an edit of a
+  value and one of another layer leave the layer without an index. The next other edit, undo or redo that names it builds the index anew,
   with exactly the boxes of the features.
 - A growth refused alone never leaves a layer without: the line that loses the index builds it anew itself.
 - A tree of 30 boxes from which some are removed one after another is gone or whole after a growth that was refused,

@@ -150,6 +150,35 @@ CASES = {
         [f"zones {PLOT}", "roads LINESTRING (2 2, 8 8)", "roads LINESTRING (-5 5, 15 5)"],
         ["add roads LINESTRING (20 5, 10 5)", f"add roads {JOINS}"],
     ),
+    "rule add spaced never wells near 2 wells": (
+        [f"wells {CORNER}", "wells POINT (2 1)", f"wells {MIDDLE}"],
+        ["add wells POINT (5 3)", f"add wells {CORNER}", "vertex move wells 2 0 0 0 1 1"],
+    ),
+    "rule add paired each wells near 2 some marks": (
+        [f"marks {MIDDLE}", f"wells {MIDDLE}", "wells POINT (5 7)", f"marks {AWAY}"],
+        ["add wells POINT (6 7)", "delete marks 1", "replace marks 1 POINT (4 5)"],
+    ),
+    "rule add kerb each marks near 0.500 some roads": (
+        # The road passes less than half a step beside the mark at (0 1).
+        ["roads LINESTRING (0 0, 1 2)", f"marks {CORNER}", "marks POINT (0 1)"],
+        ["add marks POINT (-1 0)", "add marks POINT (2 2)", "delete roads 1"],
+    ),
+    "rule add apart never roads near 2.500 rails": (
+        [f"roads {ROAD}", "rails LINESTRING (0 3, 10 3)"],
+        ["add rails LINESTRING (12 1, 20 1)", f"add rails {CROSSES}", "vertex move roads 1 0 0 1 10 1"],
+    ),
+    "rule add clear never wells near 3 buildings": (
+        [f"buildings {PLOT}", "wells POINT (13 13)", "wells POINT (14 5)"],
+        [f"add wells {MIDDLE}", "add wells POINT (13 5)", "vertex move buildings 1 0 0 2 11 11"],
+    ),
+    "rule add served each buildings near 10 some wells": (
+        ["wells POINT (16 18)", f"buildings {PLOT}", f"wells {AWAY}"],
+        ["delete wells 1", "replace wells 1 POINT (17 18)", "add buildings POLYGON ((-9 -9, -8 -9, -8 -8, -9 -9))"],
+    ),
+    "rule add together each parcels near 20 some parcels": (
+        [f"parcels {PLOT}", "parcels POLYGON ((22 26, 30 26, 30 30, 22 26))"],
+        ["delete parcels 2", "vertex move parcels 2 0 0 0 22 27", "add parcels POLYGON ((99 99, 100 99, 100 100, 99 99))"],
+    ),
 }
 
 # The rules of a geodatabase, as its own pages name them.

@@ -238,7 +238,8 @@ class Runs(unittest.TestCase):
 
     def test_words_of_the_script_are_handed_on(self) -> None:
         environment = {**os.environ, "SFSTORE": "/bin/false"}
-        ended = subprocess.run([TOP / "test", "test_reading"], env=environment, capture_output=True, text=True)
+        environment.pop("SFMAP", None)
+        ended = subprocess.run([TOP / "test", "never_tries_more"], env=environment, capture_output=True, text=True)
         self.assertEqual((ended.returncode, ended.stdout.splitlines()[-1:]), (0, ["1 passed, 0 failed, over other programs (SFSTORE)"]))
 
     def test_an_interrupt_reaches_what_was_started_in_the_background(self) -> None:
@@ -254,7 +255,7 @@ class Runs(unittest.TestCase):
             self.assertEqual(ended.returncode, 0, ended.stdout + ended.stderr)
 
     def test_single_tests_are_run_and_counted(self) -> None:
-        status, said = self.said("test_reading", "test_turns.Turns.test_enough_are_there_to_choose_from")
+        status, said = self.said("never_tries_more", "test_turns.Turns.test_enough_are_there_to_choose_from")
         self.assertEqual((status, said.splitlines()[-1]), (0, "2 passed, 0 failed, over other programs (SFSTORE, SFMAP)"))
 
     def test_a_name_of_nothing_is_refused(self) -> None:
@@ -369,7 +370,7 @@ class Start(unittest.TestCase):
         asked = subprocess.run([programs.PLACE / "sfstore", "--load", store], input=b"layers\n", capture_output=True, check=True)
         self.assertEqual(len(asked.stdout.splitlines()), 4)
         _, said, _ = self.said("town.gpkg")
-        self.assertIn("town.sfs is there already, and opened as it is.", said)
+        self.assertIn("town.sfs is there already, and opened as it is. If it was made of another map, give town.gpkg another name.", said)
         self.assertEqual(store.read_bytes(), first)
 
     @unittest.skipUnless(find_spec("osgeo"), "no GDAL for Python (python3-gdal)")

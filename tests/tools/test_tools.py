@@ -2,15 +2,23 @@
 
 from __future__ import annotations
 
+import json
 import os
+import random
 import re
 import shutil
 import subprocess
+import sys
 import tempfile
 import unittest
 from pathlib import Path
 
 TOP = Path(__file__).resolve().parents[2]
+sys.path[:0] = [str(TOP / "python")]
+
+from sfstore.language import GRID_MAX, GRID_MIN  # noqa: E402
+from sfstore.mapunits import MapUnits  # noqa: E402
+
 SCRIPTS = [
     "bench/calls.py",
     "bench/counted.py",
@@ -48,6 +56,24 @@ SCRIPTS_OF_PAGE = sorted(STATIC.glob("*.js"))
 IMPORT = re.compile(r'^import \{([^}]*)\} from "\./([^"]+)"', re.MULTILINE)
 EXPORT = re.compile(r"^export (?:async )?(?:class|function\*?|const|let) (\w+)", re.MULTILINE)
 FLAKE = re.compile(r"(.+?):(\d+):\d+:? .*")
+
+# Each place as the page writes it, and as it finds it again: as it is written, and with zeros behind its point.
+THERE_AND_BACK = """
+import { readFileSync } from "node:fs";
+import { Units } from "./units.mjs";
+let [count, wrong] = [0, 0];
+for (const { grid, points, words } of JSON.parse(readFileSync(new URL("asked.json", import.meta.url)))) {
+  const units = new Units(grid);
+  points.forEach((point, at) => {
+    const written = units.point(point);
+    const longer = written.split(" ").map((word) => `${word.includes(".") ? word : `${word}.`}${"0".repeat(12)}`).join(", ");
+    const found = [written, longer].map((text) => units.place(text).join());
+    count += 1;
+    if (written !== words[at] || found.some((place) => place !== point.join())) wrong += 1;
+  });
+}
+console.log(`${count} there and back, ${wrong} not`);
+"""
 
 
 def python_files() -> list[Path]:
@@ -115,6 +141,23 @@ class Page(unittest.TestCase):
                 copy = Path(shutil.copy(script, Path(name) / f"{script.stem}.mjs"))
                 status, text = said("node", "--check", str(copy))
                 self.assertEqual(status, 0, text)
+
+    @unittest.skipUnless(shutil.which("node"), "no node")
+    def test_coordinates_of_the_map_there_and_back(self) -> None:
+        """Ten thousand places of each grid: the page writes them as Python does, and finds them again, also with further zeros."""
+        chance = random.Random(89)
+        grids = [("500000", "5600000", "0.01"), ("-180", "-90", "0.0000001"), ("0.5", "-12.25", "0.05"), ("1e3", "-1e-9", "7e-9"), ("2600000", "1200000", "1000")]
+        asked = []
+        for x, y, step in grids:
+            units = MapUnits(x, y, step)
+            points = [(chance.randint(GRID_MIN, GRID_MAX), chance.randint(GRID_MIN, GRID_MAX)) for _ in range(10_000)]
+            words = [f"{units.coordinate(0, point[0])} {units.coordinate(1, point[1])}" for point in points]
+            asked.append({"grid": {"x": x, "y": y, "step": step}, "points": points, "words": words})
+        with tempfile.TemporaryDirectory() as name:
+            shutil.copy(STATIC / "units.js", Path(name) / "units.mjs")
+            (Path(name) / "run.mjs").write_text(THERE_AND_BACK, encoding="utf-8")
+            (Path(name) / "asked.json").write_text(json.dumps(asked), encoding="utf-8")
+            self.assertEqual(said("node", str(Path(name) / "run.mjs")), (0, "50000 there and back, 0 not\n"))
 
     def test_what_is_imported_is_there(self) -> None:
         exported = {script.name: set(EXPORT.findall(script.read_text(encoding="utf-8"))) for script in SCRIPTS_OF_PAGE}

@@ -8,13 +8,16 @@ use Rattle.sf_known.specs.declared.predicate.Predicate.TheVariants as predicates
 use Rattle.sf_layers.specs.declared.layer_kind.LayerKind.TheVariants.{Only}
 use Rattle.sf_features.specs.declared.attr_value.AttrValue.TheVariants as values
 use Rattle.sf_features.specs.declared.column_type.ColumnType.TheVariants as types
-use Rattle.sf_query.specs.declared.ask.Ask.TheVariants.{Matching, Named}
-use Rattle.sf_rules.specs.declared.rule.Demand.TheVariants.{Required, Unique}
+use Rattle.sf_rules.specs.Asked.{Matching, Named}
+use Rattle.sf_rules.specs.Asked.{Matrix, Near}
+use Rattle.sf_rules.specs.declared.rule.Demand.TheVariants.{InRange, OneOf, Required, Unique}
 use Rattle.sf_rules.specs.declared.rule.Says.TheVariants.{OfLayers, OfValues}
 use Rattle.sf_rules.specs.declared.rule.Form.TheVariants.{Never, Each}
 use Rattle.sf_steps.specs.declared.edit.Edit.TheVariants as edits
 use Rattle.sf_measure.specs.declared.measure.Measure.TheVariants.{Area, Length}
-use Rattle.sf_commands.specs.declared.command.Command.TheVariants.{Edit, AddRule, DropRule, Undo, Redo, Layers, Columns, Rules, Show, Get, Find, Hex, Simple, Extent, Measured, JoinMatching, JoinNamed}
+use Rattle.sf_commands.specs.declared.command.Command.TheVariants.{Edit, AddRule, DropRule, Undo, Redo, Layers, Columns, Rules, Show, Get, Find, Hex, Simple, Extent, Measured, Join}
+use Rattle.sf_commands.specs.declared.command.Sought.TheVariants.{Between, Value}
+use Rattle.sf_commands.specs.declared.command.Sought.TheVariants as soughts
 use Rattle.sf_commands.specs.Commands.{command_of}
 
 layer_added : command_of (codes "layer add wells multipolygon") ≡ Ok (0, Edit (edits.AddLayer (codes "wells") (Only kinds.MultiPolygon)))
@@ -94,38 +97,95 @@ measures_asked : (command_of (codes "area wells 7") ≡ Ok (0, Measured Area (co
     × (command_of (codes "area wells") ≡ Err BadCommand) × (command_of (codes "length wells x") ≡ Err BadCommand)
 measures_asked = (refl, refl, refl, refl)
 
-values_sought : (command_of (codes "find wells depth -12 ") ≡ Ok (0, Find (codes "wells") (codes "depth") (Some (values.Int (negsuc 11)))))
-    × (command_of (codes "find wells label 'it''s old'") ≡ Ok (0, Find (codes "wells") (codes "label") (Some (values.Text (codes "it's old"))))) × (command_of (codes "find wells label ") ≡ Ok (0, Find (codes "wells") (codes "label") None))
+values_sought : (command_of (codes "find wells depth -12 ") ≡ Ok (0, Find (codes "wells") (codes "depth") (Value (values.Int (negsuc 11)))))
+    × (command_of (codes "find wells label 'it''s old'") ≡ Ok (0, Find (codes "wells") (codes "label") (Value (values.Text (codes "it's old"))))) × (command_of (codes "find wells label ") ≡ Ok (0, Find (codes "wells") (codes "label") soughts.Any))
 values_sought = (refl, refl, refl)
 
 values_not_sought : (command_of (codes "find") ≡ Err BadCommand) × (command_of (codes "find wells") ≡ Err BadCommand) × (command_of (codes "find wells label old") ≡ Err BadCommand) × (command_of (codes "find wells depth 1 2") ≡ Err BadCommand)
 values_not_sought = (refl, refl, refl, refl)
 
-pairs_asked : (command_of (codes "join wells within parcels") ≡ Ok (0, JoinNamed (codes "wells") predicates.Within (codes "parcels") None))
-    × (command_of (codes "@2 join wells overlaps wells 7 ") ≡ Ok (2, JoinNamed (codes "wells") predicates.Overlaps (codes "wells") (Some 7)))
-    × (command_of (codes "join wells T*F**F*** parcels 12") ≡ Ok (0, JoinMatching (codes "wells") (Filled ∷ Any ∷ Empty ∷ Any ∷ Any ∷ Empty ∷ Any ∷ Any ∷ Any ∷ []) (codes "parcels") (Some 12)))
+-- a range of values: with both ends, with one, and the least one behind the greatest
+ranges_sought : (command_of (codes "find wells depth -1 to  12 ") ≡ Ok (0, Find (codes "wells") (codes "depth") (Between (record { from = Some (values.Int (negsuc 0)); to = Some (values.Int (pos 12)) }))))
+    × (command_of (codes "@2 find wells depth 5 to ") ≡ Ok (2, Find (codes "wells") (codes "depth") (Between (record { from = Some (values.Int (pos 5)); to = None }))))
+    × (command_of (codes "find wells depth to 5") ≡ Ok (0, Find (codes "wells") (codes "depth") (Between (record { from = None; to = Some (values.Int (pos 5)) }))))
+    × (command_of (codes "find wells depth 5 to 1") ≡ Ok (0, Find (codes "wells") (codes "depth") (Between (record { from = Some (values.Int (pos 5)); to = Some (values.Int (pos 1)) }))))
+ranges_sought = (refl, refl, refl, refl)
+
+-- a word `to` in quotes parts nothing, also behind two quotes that stand for one
+ranges_of_texts_sought : (command_of (codes "find wells label 'a to b' to 'it''s to'") ≡ Ok (0, Find (codes "wells") (codes "label") (Between (record { from = Some (values.Text (codes "a to b")); to = Some (values.Text (codes "it's to")) }))))
+    × (command_of (codes "find wells label ' to '") ≡ Ok (0, Find (codes "wells") (codes "label") (Value (values.Text (codes " to ")))))
+    × (command_of (codes "find wells label 'it''s to '") ≡ Ok (0, Find (codes "wells") (codes "label") (Value (values.Text (codes "it's to ")))))
+    × (command_of (codes "find wells label '''' to ''") ≡ Ok (0, Find (codes "wells") (codes "label") (Between (record { from = Some (values.Text (codes "'")); to = Some (values.Text []) }))))
+ranges_of_texts_sought = (refl, refl, refl, refl)
+
+-- neither end, more than two, an end that spells no value, and `to` that is no word by itself
+ranges_not_sought : (command_of (codes "find wells depth to") ≡ Err BadCommand) × (command_of (codes "find wells depth  to  ") ≡ Err BadCommand) × (command_of (codes "find wells depth 1 to 2 to 3") ≡ Err BadCommand)
+    × (command_of (codes "find wells depth 1 to b") ≡ Err BadCommand) × (command_of (codes "find wells depth 1to 2") ≡ Err BadCommand) × (command_of (codes "find wells depth 1 to2") ≡ Err BadCommand)
+    × (command_of (codes "find wells depth 1 TO 2") ≡ Err BadCommand) × (command_of (codes "find wells label 'a'to 'b'") ≡ Err BadCommand) × (command_of (codes "find wells label 'a to 'b'") ≡ Err BadCommand)
+ranges_not_sought = (refl, refl, refl, refl, refl, refl, refl, refl, refl)
+
+pairs_asked : (command_of (codes "join wells within parcels") ≡ Ok (0, Join (codes "wells") (Matrix (Named predicates.Within)) (codes "parcels") None))
+    × (command_of (codes "@2 join wells overlaps wells 7 ") ≡ Ok (2, Join (codes "wells") (Matrix (Named predicates.Overlaps)) (codes "wells") (Some 7)))
+    × (command_of (codes "join wells T*F**F*** parcels 12") ≡ Ok (0, Join (codes "wells") (Matrix (Matching (Filled ∷ Any ∷ Empty ∷ Any ∷ Any ∷ Empty ∷ Any ∷ Any ∷ Any ∷ []))) (codes "parcels") (Some 12)))
 pairs_asked = (refl, refl, refl)
 
+-- by a distance
+pairs_near_asked : (command_of (codes "join wells near 2.5 parcels") ≡ Ok (0, Join (codes "wells") (Near 2500) (codes "parcels") None))
+    × (command_of (codes "join wells near 0 wells 7") ≡ Ok (0, Join (codes "wells") (Near 0) (codes "wells") (Some 7)))
+    × (command_of (codes "join wells near parcels") ≡ Err BadCommand) × (command_of (codes "join wells near parcels 7") ≡ Err BadCommand) × (command_of (codes "join wells near -1 parcels") ≡ Err BadCommand)
+    × (command_of (codes "join wells near 0.0001 parcels") ≡ Err BadCommand) × (command_of (codes "join wells near 1 parcels 7 8") ≡ Err BadCommand) × (command_of (codes "join wells near 4294967296 parcels") ≡ Err BadCommand)
+pairs_near_asked = (refl, refl, refl, refl, refl, refl, refl, refl)
+
+rules_near_added : (command_of (codes "rule add apart never pipes near 2000 cables") ≡ Ok (0, AddRule (record { name = codes "apart"; says = OfLayers (record { form = Never; first = codes "pipes"; ask = Near 2000000; second = codes "cables" }) })))
+    × (command_of (codes "rule add served each houses near 150.25 some hydrants") ≡ Ok (0, AddRule (record { name = codes "served"; says = OfLayers (record { form = Each; first = codes "houses"; ask = Near 150250; second = codes "hydrants" }) })))
+    × (command_of (codes "rule add apart never pipes near cables") ≡ Err BadCommand) × (command_of (codes "rule add served each houses near 150 hydrants") ≡ Err BadCommand) × (command_of (codes "rule add apart never pipes near 1x cables") ≡ Err BadCommand)
+rules_near_added = (refl, refl, refl, refl, refl)
+
 -- a wrong number of words and a wrong identifier come before a wrong pattern
-pairs_not_asked : (command_of (codes "join") ≡ Err BadCommand) × (command_of (codes "join wells within") ≡ Err BadCommand) × (command_of (codes "join wells near parcels x") ≡ Err BadCommand)
-    × (command_of (codes "join wells near parcels 1 2") ≡ Err BadCommand) × (command_of (codes "join wells near parcels 4294967296") ≡ Err BadCommand) × (command_of (codes "join wells near parcels") ≡ Err BadPattern) × (command_of (codes "join wells T*T parcels 1") ≡ Err BadPattern)
+pairs_not_asked : (command_of (codes "join") ≡ Err BadCommand) × (command_of (codes "join wells within") ≡ Err BadCommand) × (command_of (codes "join wells nearby parcels x") ≡ Err BadCommand)
+    × (command_of (codes "join wells nearby parcels 1 2") ≡ Err BadCommand) × (command_of (codes "join wells nearby parcels 4294967296") ≡ Err BadCommand) × (command_of (codes "join wells nearby parcels") ≡ Err BadPattern) × (command_of (codes "join wells T*T parcels 1") ≡ Err BadPattern)
 pairs_not_asked = (refl, refl, refl, refl, refl, refl, refl)
 
-rules_added : (command_of (codes "rule add apart never parcels overlaps parcels") ≡ Ok (0, AddRule (record { name = codes "apart"; says = OfLayers (record { form = Never; first = codes "parcels"; ask = Named predicates.Overlaps; second = codes "parcels" }) })))
-    × (command_of (codes "@2  rule add inside each parcels within some districts ") ≡ Ok (2, AddRule (record { name = codes "inside"; says = OfLayers (record { form = Each; first = codes "parcels"; ask = Named predicates.Within; second = codes "districts" }) })))
-    × (command_of (codes "rule add 9 never wells t*F**F*** parcels") ≡ Ok (0, AddRule (record { name = codes "9"; says = OfLayers (record { form = Never; first = codes "wells"; ask = Matching (Filled ∷ Any ∷ Empty ∷ Any ∷ Any ∷ Empty ∷ Any ∷ Any ∷ Any ∷ []); second = codes "parcels" }) })))
-    × (command_of (codes "rule add never each some T******** some some") ≡ Ok (0, AddRule (record { name = codes "never"; says = OfLayers (record { form = Each; first = codes "some"; ask = Matching (Filled ∷ Any ∷ Any ∷ Any ∷ Any ∷ Any ∷ Any ∷ Any ∷ Any ∷ []); second = codes "some" }) })))
+rules_added : (command_of (codes "rule add apart never parcels overlaps parcels") ≡ Ok (0, AddRule (record { name = codes "apart"; says = OfLayers (record { form = Never; first = codes "parcels"; ask = Matrix (Named predicates.Overlaps); second = codes "parcels" }) })))
+    × (command_of (codes "@2  rule add inside each parcels within some districts ") ≡ Ok (2, AddRule (record { name = codes "inside"; says = OfLayers (record { form = Each; first = codes "parcels"; ask = Matrix (Named predicates.Within); second = codes "districts" }) })))
+    × (command_of (codes "rule add 9 never wells t*F**F*** parcels") ≡ Ok (0, AddRule (record { name = codes "9"; says = OfLayers (record { form = Never; first = codes "wells"; ask = Matrix (Matching (Filled ∷ Any ∷ Empty ∷ Any ∷ Any ∷ Empty ∷ Any ∷ Any ∷ Any ∷ [])); second = codes "parcels" }) })))
+    × (command_of (codes "rule add never each some T******** some some") ≡ Ok (0, AddRule (record { name = codes "never"; says = OfLayers (record { form = Each; first = codes "some"; ask = Matrix (Matching (Filled ∷ Any ∷ Any ∷ Any ∷ Any ∷ Any ∷ Any ∷ Any ∷ Any ∷ [])); second = codes "some" }) })))
 rules_added = (refl, refl, refl, refl)
 
 rules_on_values : (command_of (codes "rule add numbers unique parcels number") ≡ Ok (0, AddRule (record { name = codes "numbers"; says = OfValues (record { demand = Unique; layer = codes "parcels"; column = codes "number" }) })))
     × (command_of (codes "@2 rule  add numbered required parcels number ") ≡ Ok (2, AddRule (record { name = codes "numbered"; says = OfValues (record { demand = Required; layer = codes "parcels"; column = codes "number" }) })))
-    × (command_of (codes "rule add unique never unique overlaps required") ≡ Ok (0, AddRule (record { name = codes "unique"; says = OfLayers (record { form = Never; first = codes "unique"; ask = Named predicates.Overlaps; second = codes "required" }) })))
+    × (command_of (codes "rule add unique never unique overlaps required") ≡ Ok (0, AddRule (record { name = codes "unique"; says = OfLayers (record { form = Never; first = codes "unique"; ask = Matrix (Named predicates.Overlaps); second = codes "required" }) })))
 rules_on_values = (refl, refl, refl)
 
 -- a word too few or too many, and a word in capitals
 no_rules_on_values : (command_of (codes "rule add numbers unique parcels") ≡ Err BadCommand) × (command_of (codes "rule add numbers unique") ≡ Err BadCommand)
     × (command_of (codes "rule add numbers unique parcels number number") ≡ Err BadCommand) × (command_of (codes "rule add numbers UNIQUE parcels number") ≡ Err BadCommand)
 no_rules_on_values = (refl, refl, refl, refl)
+
+-- rules that name values, with blanks around them or without; a comma in quotes parts nothing
+rules_on_named_values : (command_of (codes "rule add kinds one-of parcels kind 'house', 'barn'") ≡ Ok (0, AddRule (record { name = codes "kinds"; says = OfValues (record { demand = OneOf (values.Text (codes "house") ∷ values.Text (codes "barn") ∷ []); layer = codes "parcels"; column = codes "kind" }) })))
+    × (command_of (codes "@2  rule add n one-of parcels number 1,-2 , 1 ") ≡ Ok (2, AddRule (record { name = codes "n"; says = OfValues (record { demand = OneOf (values.Int (pos 1) ∷ values.Int (negsuc 1) ∷ values.Int (pos 1) ∷ []); layer = codes "parcels"; column = codes "number" }) })))
+    × (command_of (codes "rule add n one-of parcels kind 'a, b','it''s, c'") ≡ Ok (0, AddRule (record { name = codes "n"; says = OfValues (record { demand = OneOf (values.Text (codes "a, b") ∷ values.Text (codes "it's, c") ∷ []); layer = codes "parcels"; column = codes "kind" }) })))
+    × (command_of (codes "rule add n one-of parcels kind 7") ≡ Ok (0, AddRule (record { name = codes "n"; says = OfValues (record { demand = OneOf (values.Int (pos 7) ∷ []); layer = codes "parcels"; column = codes "kind" }) })))
+    × (command_of (codes "rule add to one-of to one-of 'to', ''") ≡ Ok (0, AddRule (record { name = codes "to"; says = OfValues (record { demand = OneOf (values.Text (codes "to") ∷ values.Text [] ∷ []); layer = codes "to"; column = codes "one-of" }) })))
+rules_on_named_values = (refl, refl, refl, refl, refl)
+
+-- no value, an empty part, a part that spells no value, and a quote that is not closed
+no_rules_on_named_values : (command_of (codes "rule add n one-of parcels kind") ≡ Err BadCommand) × (command_of (codes "rule add n one-of parcels kind ") ≡ Err BadCommand) × (command_of (codes "rule add n one-of parcels kind ,") ≡ Err BadCommand)
+    × (command_of (codes "rule add n one-of parcels kind 1,,2") ≡ Err BadCommand) × (command_of (codes "rule add n one-of parcels kind 1, 2,") ≡ Err BadCommand) × (command_of (codes "rule add n one-of parcels kind 1 2") ≡ Err BadCommand)
+    × (command_of (codes "rule add n one-of parcels kind house") ≡ Err BadCommand) × (command_of (codes "rule add n one-of parcels kind 'a, 'b'") ≡ Err BadCommand) × (command_of (codes "rule add n one-of parcels") ≡ Err BadCommand)
+    × (command_of (codes "rule add n one-Of parcels kind 1") ≡ Err BadCommand)
+no_rules_on_named_values = (refl, refl, refl, refl, refl, refl, refl, refl, refl, refl)
+
+rules_on_ranges : (command_of (codes "rule add n range parcels number 1 to 9") ≡ Ok (0, AddRule (record { name = codes "n"; says = OfValues (record { demand = InRange (record { from = Some (values.Int (pos 1)); to = Some (values.Int (pos 9)) }); layer = codes "parcels"; column = codes "number" }) })))
+    × (command_of (codes "rule add n range parcels number  1  to ") ≡ Ok (0, AddRule (record { name = codes "n"; says = OfValues (record { demand = InRange (record { from = Some (values.Int (pos 1)); to = None }); layer = codes "parcels"; column = codes "number" }) })))
+    × (command_of (codes "@9 rule add range range parcels number to 9") ≡ Ok (9, AddRule (record { name = codes "range"; says = OfValues (record { demand = InRange (record { from = None; to = Some (values.Int (pos 9)) }); layer = codes "parcels"; column = codes "number" }) })))
+    × (command_of (codes "rule add n range parcels kind 'a to b' to 'to'") ≡ Ok (0, AddRule (record { name = codes "n"; says = OfValues (record { demand = InRange (record { from = Some (values.Text (codes "a to b")); to = Some (values.Text (codes "to")) }); layer = codes "parcels"; column = codes "kind" }) })))
+rules_on_ranges = (refl, refl, refl, refl)
+
+no_rules_on_ranges : (command_of (codes "rule add n range parcels number") ≡ Err BadCommand) × (command_of (codes "rule add n range parcels number to") ≡ Err BadCommand) × (command_of (codes "rule add n range parcels number 1") ≡ Err BadCommand)
+    × (command_of (codes "rule add n range parcels number 1 9") ≡ Err BadCommand) × (command_of (codes "rule add n range parcels to 9") ≡ Err BadCommand) × (command_of (codes "rule add n range parcels number 1, 2 to 9") ≡ Err BadCommand)
+no_rules_on_ranges = (refl, refl, refl, refl, refl, refl)
 
 rules_dropped : (command_of (codes "rule drop apart") ≡ Ok (0, DropRule (codes "apart"))) × (command_of (codes "@3 rule  drop 9 ") ≡ Ok (3, DropRule (codes "9")))
 rules_dropped = (refl, refl)
@@ -136,17 +196,17 @@ rules_listed = (refl, refl, refl)
 -- no form, no action, or a wrong number of words; all of them come before a wrong pattern
 no_rules : (command_of (codes "rule") ≡ Err BadCommand) × (command_of (codes "rule rename apart asunder") ≡ Err BadCommand) × (command_of (codes "rule Add r never p overlaps p") ≡ Err BadCommand)
     × (command_of (codes "Rule add r never p overlaps p") ≡ Err BadCommand) × (command_of (codes "rule add") ≡ Err BadCommand) × (command_of (codes "rule add r") ≡ Err BadCommand)
-    × (command_of (codes "rule add r never") ≡ Err BadCommand) × (command_of (codes "rule add r never p") ≡ Err BadCommand) × (command_of (codes "rule add r never p near") ≡ Err BadCommand)
-    × (command_of (codes "rule add r always p near p") ≡ Err BadCommand) × (command_of (codes "rule add r Never p near p") ≡ Err BadCommand) × (command_of (codes "rule add r never p near p p") ≡ Err BadCommand)
-    × (command_of (codes "rule add r never p near some d") ≡ Err BadCommand) × (command_of (codes "rule drop") ≡ Err BadCommand) × (command_of (codes "rule drop r r") ≡ Err BadCommand)
+    × (command_of (codes "rule add r never") ≡ Err BadCommand) × (command_of (codes "rule add r never p") ≡ Err BadCommand) × (command_of (codes "rule add r never p nearby") ≡ Err BadCommand)
+    × (command_of (codes "rule add r always p nearby p") ≡ Err BadCommand) × (command_of (codes "rule add r Never p nearby p") ≡ Err BadCommand) × (command_of (codes "rule add r never p nearby p p") ≡ Err BadCommand)
+    × (command_of (codes "rule add r never p nearby some d") ≡ Err BadCommand) × (command_of (codes "rule drop") ≡ Err BadCommand) × (command_of (codes "rule drop r r") ≡ Err BadCommand)
 no_rules = (refl, refl, refl, refl, refl, refl, refl, refl, refl, refl, refl, refl, refl, refl, refl)
 
-no_rules_for_each : (command_of (codes "rule add r each p near") ≡ Err BadCommand) × (command_of (codes "rule add r each p near d") ≡ Err BadCommand) × (command_of (codes "rule add r each p near some") ≡ Err BadCommand)
-    × (command_of (codes "rule add r each p near any d") ≡ Err BadCommand) × (command_of (codes "rule add r each p near Some d") ≡ Err BadCommand) × (command_of (codes "rule add r each p near some d d") ≡ Err BadCommand)
+no_rules_for_each : (command_of (codes "rule add r each p nearby") ≡ Err BadCommand) × (command_of (codes "rule add r each p nearby d") ≡ Err BadCommand) × (command_of (codes "rule add r each p nearby some") ≡ Err BadCommand)
+    × (command_of (codes "rule add r each p nearby any d") ≡ Err BadCommand) × (command_of (codes "rule add r each p nearby Some d") ≡ Err BadCommand) × (command_of (codes "rule add r each p nearby some d d") ≡ Err BadCommand)
 no_rules_for_each = (refl, refl, refl, refl, refl, refl)
 
 -- a word that is neither a predicate nor a pattern
-rules_without_pattern : (command_of (codes "rule add r never p near p") ≡ Err BadPattern) × (command_of (codes "rule add r never p Overlaps p") ≡ Err BadPattern)
+rules_without_pattern : (command_of (codes "rule add r never p nearby p") ≡ Err BadPattern) × (command_of (codes "rule add r never p Overlaps p") ≡ Err BadPattern)
     × (command_of (codes "rule add r each p T*T some d") ≡ Err BadPattern) × (command_of (codes "rule add r each p T*F**F**3 some d") ≡ Err BadPattern)
 rules_without_pattern = (refl, refl, refl, refl)
 

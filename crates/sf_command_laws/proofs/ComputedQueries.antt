@@ -6,7 +6,7 @@ use Rattle.sf_geometry.specs.declared.geometry.Geometry.{Geometry}
 use Rattle.sf_geometry.specs.declared.geometry.Geometry.TheVariants as geometries
 use Rattle.sf_known.specs.declared.letter.Letter.TheVariants.{Any, Filled, Empty as Unfilled, Zero, One, Two}
 use Rattle.sf_known.specs.declared.predicate.Predicate.TheVariants as predicates
-use Rattle.sf_query.specs.declared.ask.Ask.TheVariants.{Named}
+use Rattle.sf_rules.specs.Asked.{Named}
 use Rattle.sf_commands.specs.declared.command.Command.TheVariants.{Distance, Nearest, Reach, ReachUntil, Relate, Match, Query, Near}
 use Rattle.sf_commands.specs.Commands.{command_of}
 

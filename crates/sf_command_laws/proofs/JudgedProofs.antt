@@ -1,6 +1,6 @@
 -- Geometries that features are compared with are judged over all points of the plane.
-use Rattle.std.proofs.Common.{◌≡◌, ℕ, ℤ, Bool, true, false, ◌&&◌, nat_le, nat_lt, bytes_eq, codes, List, [], ◌∷◌, length, Option, None, Some, ok_or, Result, Ok, Err, IfErr, IfOk, if◌then◌else◌, refl, sym, ap, ◌∙◌, subst, true≢false}
-use Rattle.std.specs.List.{AllByRecursion}
+use Rattle.std.proofs.Common.{◌≡◌, ℕ, ℤ, Bool, true, false, ◌&&◌, ◌||◌, is_some, nat_le, nat_lt, bytes_eq, codes, List, [], ◌∷◌, length, Option, None, Some, ok_or, Result, Ok, Err, IfErr, IfOk, if◌then◌else◌, refl, sym, ap, ◌∙◌, subst, true≢false}
+use Rattle.std.specs.List.{AllByRecursion, list_all}
 use Rattle.hex.specs.declared.error.FromHexError.{FromHexError}
 use Rattle.hex.specs.Hex.{decode_of}
 use Rattle.sf_refusals.specs.declared.refusal.Refusal.{Refusal}
@@ -24,17 +24,20 @@ use Rattle.sf_wkt.specs.declared.fault.WktFault.{WktFault}
 use Rattle.sf_wkt.specs.declared.fault.WktFault.TheVariants as texts
 use Rattle.sf_wkt.specs.Faults.{refusal_of}
 use Rattle.sf_wkt.specs.Grammar.{read}
-use Rattle.sf_wkt.specs.Tokens.{coordinate_of}
+use Rattle.sf_wkt.specs.Tokens.{coordinate_of, is_blank}
 use Rattle.sf_wkt.proofs.Sized.{read_is_sized}
 use Rattle.sf_wkb.specs.declared.fault.WkbFault.{WkbFault}
 use Rattle.sf_wkb.specs.declared.fault.WkbFault.TheVariants as binaries
 use Rattle.sf_wkb.specs.Faults.{refusal_of as refusal_of_bytes}
 use Rattle.sf_wkb.specs.Grammar.{read as read_bytes}
+use Rattle.sf_rules.specs.Asked.{PairAsk}
 use Rattle.sf_rules.specs.declared.rule.Form.{Form}
-use Rattle.sf_rules.specs.declared.rule.Demand.{Demand}
 use Rattle.sf_rules.specs.declared.rule.Form.TheVariants.{Never, Each}
 use Rattle.sf_steps.specs.declared.edit.Edit.TheVariants as edits
 use Rattle.sf_commands.specs.declared.command.Command.{Command}
+use Rattle.sf_commands.specs.declared.spelling.DemandWord.{DemandWord}
+use Rattle.sf_commands.specs.declared.spelling.DemandWord.TheVariants as demand_words
+use Rattle.sf_commands.specs.ValueLists.{around_to}
 use Rattle.sf_commands.specs.declared.command.Command.TheVariants.{Edit, Undo, Redo, Layers, Columns, Rules, Show, Get, Hex, Simple, Extent, Measured, Distance, Nearest, Relate, Match, Query, Near}
 use Rattle.sf_words.specs.declared.naming.Naming.TheVariants.{ById}
 use Rattle.sf_words.specs.declared.verb.Verb.{Verb}
@@ -44,12 +47,14 @@ use Rattle.sf_words.specs.declared.verb.Action.TheVariants as actions
 use Rattle.sf_words.specs.Reaches.{is_near, reach_of}
 use Rattle.sf_words.specs.Words.{words, skip_blanks, skip_word, trimmed_end}
 use Rattle.sf_words.specs.Points.{point_by, point_of}
+use Rattle.sf_features.specs.declared.attr_value.AttrValue.{AttrValue}
+use Rattle.sf_layers.specs.declared.value_range.ValueRange.{ValueRange}
 use Rattle.sf_values.specs.Values.{value_of}
 use Rattle.sf_words.specs.Verbs.{action_of, verb_of}
 use Rattle.sf_words.specs.Naming.{given, id_of, vertex_place}
 use Rattle.sf_words.specs.Editors.{addressed, behind_at, by_digits, by_first_word, editor_of}
 use Rattle.sf_values.specs.Kinds.{column_type_of, layer_kind_of, predicate_of}
-use Rattle.sf_commands.specs.Commands.{Linked, add_arguments, add_column, add_layer, add_rule, addhex_arguments, addressed_command, after_two_words, alone, ask_by, ask_of, beside_of, by_editor, by_verb, by_words, bytes_command, check_arguments, column_arguments, column_command, compared_arguments, delete_arguments, demand_of, drop_column, drop_layer, drop_rule, faultless, feature_arguments, feature_command, feature_named, features_arguments, features_command, few_named, find_arguments, form_of, hex_command, ids_max, ids_of, insert_vertex, join_arguments, join_by, layer_arguments, layer_command, layer_rule, linked_of, made, match_arguments, move_layer, move_vertex, nearest_arguments, of_layer, of_text, query_arguments, query_named, query_near, reach_arguments, reach_behind, reach_linked, reach_until, remove_vertex, rename_layer, replace_arguments, rule_arguments, rule_asked, rule_by, rule_command, second_of, set_arguments, sought_of, unset_arguments, valid_of, value_rule, vertex_arguments, vertex_command, with_geometry, with_id}
+use Rattle.sf_commands.specs.Commands.{add_arguments, add_column, add_layer, add_rule, addhex_arguments, addressed_command, after_two_words, alone, ask_by, ask_of, beside_of, by_editor, by_verb, by_words, bytes_command, check_arguments, column_arguments, column_command, compared_arguments, delete_arguments, demand_by, demand_of, drop_column, drop_layer, drop_rule, end_of, faultless, feature_arguments, feature_command, feature_named, features_arguments, features_command, few_named, find_arguments, form_of, hex_command, ids_max, ids_of, insert_vertex, join_arguments, join_behind, join_near, layer_arguments, layer_command, layer_rule, Linked, linked_of, made, match_arguments, matrix_ask_of, move_layer, move_vertex, near_ask_of, near_rule, nearest_arguments, of_layer, of_text, query_arguments, query_named, query_near, range_between, range_with, reach_arguments, reach_behind, reach_linked, reach_until, remove_vertex, rename_layer, replace_arguments, rule_arguments, rule_behind, rule_by, rule_command, second_of, set_arguments, sought_by, sought_of, unset_arguments, valid_of, value_between, value_rule, values_of, vertex_arguments, vertex_command, with_geometry, with_id}
 use Rattle.sf_command_laws.specs.Laws.{GivenGeometriesAreJudgedOverThePlane, HasFaultyGiven, HasJudgedGiven, HasValidGiven, SpellsValid, from_third, given_text, query_text, text_behind, text_by_words}
 
 -- what is said of what was made of a text behind the verb
@@ -331,9 +336,30 @@ features_judged t command (layer ∷ ids) judged = by (ids_of ids)
     by None = bad t
     by (Some ids) = judged layer ids
 
+end_other : (text : List ℕ) → IfErr (end_of text) IsOther
+end_other text = by (list_all is_blank text)
+  where
+    by : (is : Bool) → IfErr (if is then Ok None else given (value_between text) (λ value. Ok (Some value))) IsOther
+    by true = tt
+    by false = given_other (value_between text) _ (λ value. tt)
+
+range_with_other : (from to : Option AttrValue) → IfErr (range_with from to) IsOther
+range_with_other from to = by (is_some from || is_some to)
+  where
+    by : (is : Bool) → IfErr {T = ValueRange} (if is then Ok (record { from = from; to = to }) else Err BadCommand) IsOther
+    by true = tt
+    by false = refl
+
+range_other : (ends : List ℕ × List ℕ) → IfErr (range_between ends) IsOther
+range_other ends = made_other (end_of ends.0) _ (end_other ends.0) (λ from. made_other (end_of ends.1) _ (end_other ends.1) (λ to. range_with_other from to))
+
+sought_by_other : (text : List ℕ) (ends : Option (List ℕ × List ℕ)) → IfErr (sought_by text ends) IsOther
+sought_by_other text (Some ends) = made_other (range_between ends) _ (range_other ends) (λ range. tt)
+sought_by_other text None = given_other (value_between text) _ (λ value. tt)
+
 sought_other : (value : List (List ℕ)) (text : List ℕ) → IfErr (sought_of value text) IsOther
 sought_other [] text = tt
-sought_other (first ∷ more) text = given_other (value_of (trimmed_end text)) _ (λ value. tt)
+sought_other (first ∷ more) text = sought_by_other text (around_to text)
 
 find_judged : (t : List ℕ) (arguments : List (List ℕ)) (text : List ℕ) → Judged t (find_arguments arguments text)
 find_judged t [] text = bad t
@@ -345,19 +371,32 @@ beside_other [] = tt
 beside_other (id ∷ []) = given_other (id_of id) _ (λ id. tt)
 beside_other (id ∷ (word ∷ more)) = refl
 
-join_by_judged : (t first ask : List ℕ) (predicate : Option Predicate) (second : List ℕ) (beside : Option ℕ) → Judged t (join_by first ask predicate second beside)
-join_by_judged t first ask (Some predicate) second beside = tt
-join_by_judged t first ask None second beside = made_judged t (ok_or (pattern_of ask) BadPattern) _ (spelled_other (pattern_of ask) BadPattern refl) (λ letters. tt)
+ask_by_other : (word : List ℕ) (predicate : Option Predicate) → IfErr (ask_by word predicate) IsOther
+ask_by_other word (Some predicate) = tt
+ask_by_other word None = made_other (ok_or (pattern_of word) BadPattern) _ (spelled_other (pattern_of word) BadPattern refl) (λ letters. tt)
+
+matrix_ask_other : (word : List ℕ) → IfErr (matrix_ask_of word) IsOther
+matrix_ask_other word = made_other (ask_of word) _ (ask_by_other word (predicate_of word)) (λ ask. tt)
+
+near_ask_other : (distance : List ℕ) → IfErr (near_ask_of distance) IsOther
+near_ask_other distance = made_other (ok_or (reach_of distance) BadCommand) _ (spelled_other (reach_of distance) BadCommand refl) (λ reach. tt)
+
+join_behind_judged : (t first : List ℕ) (ask : Result PairAsk Refusal) (arguments : List (List ℕ)) → IfErr ask IsOther → Judged t (join_behind first ask arguments)
+join_behind_judged t first ask [] other = bad t
+join_behind_judged t first ask (second ∷ beside) other = made_judged t (beside_of beside) _ (beside_other beside) (λ beside. made_judged t ask _ other (λ ask. tt))
+
+join_near_judged : (t first : List ℕ) (arguments : List (List ℕ)) → Judged t (join_near first arguments)
+join_near_judged t first [] = bad t
+join_near_judged t first (distance ∷ arguments) = join_behind_judged t first (near_ask_of distance) arguments (near_ask_other distance)
 
 join_judged : (t : List ℕ) (arguments : List (List ℕ)) → Judged t (join_arguments arguments)
 join_judged t [] = bad t
 join_judged t (first ∷ []) = bad t
-join_judged t (first ∷ ask ∷ []) = bad t
-join_judged t (first ∷ ask ∷ second ∷ beside) = made_judged t (beside_of beside) _ (beside_other beside) (λ beside. join_by_judged t first ask (predicate_of ask) second beside)
-
-ask_by_other : (word : List ℕ) (predicate : Option Predicate) → IfErr (ask_by word predicate) IsOther
-ask_by_other word (Some predicate) = tt
-ask_by_other word None = made_other (ok_or (pattern_of word) BadPattern) _ (spelled_other (pattern_of word) BadPattern refl) (λ letters. tt)
+join_judged t (first ∷ ask ∷ arguments) = by (is_near ask)
+  where
+    by : (near : Bool) → Judged t (if near then join_near first arguments else join_behind first (matrix_ask_of ask) arguments)
+    by true = join_near_judged t first arguments
+    by false = join_behind_judged t first (matrix_ask_of ask) arguments (matrix_ask_other ask)
 
 reach_until_judged : (t layer ask ids : List ℕ) (arguments : List (List ℕ)) → Judged t (reach_until layer ask ids arguments)
 reach_until_judged t layer ask ids [] = bad t
@@ -396,41 +435,58 @@ second_other Each (some ∷ []) = refl
 second_other Each (some ∷ second ∷ []) = some_other (bytes_eq some (codes "some")) second
 second_other Each (some ∷ second ∷ word ∷ more) = refl
 
-rule_asked_judged : (t name : List ℕ) (form : Form) (first ask second : List ℕ) → Judged t (rule_asked name form first ask second)
-rule_asked_judged t name form first ask second = made_judged t (ask_of ask) _ (ask_by_other ask (predicate_of ask)) (λ ask. tt)
+rule_behind_judged : (t name : List ℕ) (form : Form) (first : List ℕ) (ask : Result PairAsk Refusal) (arguments : List (List ℕ)) → IfErr ask IsOther → Judged t (rule_behind name form first ask arguments)
+rule_behind_judged t name form first ask arguments other = made_judged t (second_of form arguments) _ (second_other form arguments) (λ second. made_judged t ask _ other (λ ask. tt))
+
+near_rule_judged : (t name : List ℕ) (form : Form) (first : List ℕ) (arguments : List (List ℕ)) → Judged t (near_rule name form first arguments)
+near_rule_judged t name form first [] = bad t
+near_rule_judged t name form first (distance ∷ arguments) = rule_behind_judged t name form first (near_ask_of distance) arguments (near_ask_other distance)
 
 layer_rule_judged : (t name : List ℕ) (form : Form) (arguments : List (List ℕ)) → Judged t (layer_rule name form arguments)
 layer_rule_judged t name form [] = bad t
 layer_rule_judged t name form (first ∷ []) = bad t
-layer_rule_judged t name form (first ∷ ask ∷ second) = made_judged t (second_of form second) _ (second_other form second) (λ second. rule_asked_judged t name form first ask second)
+layer_rule_judged t name form (first ∷ ask ∷ arguments) = by (is_near ask)
+  where
+    by : (near : Bool) → Judged t (if near then near_rule name form first arguments else rule_behind name form first (matrix_ask_of ask) arguments)
+    by true = near_rule_judged t name form first arguments
+    by false = rule_behind_judged t name form first (matrix_ask_of ask) arguments (matrix_ask_other ask)
 
-value_rule_judged : (t name : List ℕ) (demand : Demand) (arguments : List (List ℕ)) → Judged t (value_rule name demand arguments)
-value_rule_judged t name demand [] = bad t
-value_rule_judged t name demand (layer ∷ []) = bad t
-value_rule_judged t name demand (layer ∷ column ∷ []) = tt
-value_rule_judged t name demand (layer ∷ column ∷ word ∷ more) = bad t
+demand_other : (demand : DemandWord) (arguments : List (List ℕ)) (text : List ℕ) → IfErr (demand_by demand arguments text) IsOther
+demand_other demand_words.Unique [] text = tt
+demand_other demand_words.Unique (first ∷ more) text = refl
+demand_other demand_words.Required [] text = tt
+demand_other demand_words.Required (first ∷ more) text = refl
+demand_other demand_words.OneOf [] text = refl
+demand_other demand_words.OneOf (first ∷ more) text = given_other (values_of text) _ (λ values. tt)
+demand_other demand_words.Range [] text = refl
+demand_other demand_words.Range (first ∷ more) text = given_other (around_to text) _ (λ ends. made_other (range_between ends) _ (range_other ends) (λ range. tt))
 
-rule_by_judged : (t name : List ℕ) (demand : Option Demand) (word : List ℕ) (arguments : List (List ℕ)) → Judged t (rule_by name demand word arguments)
-rule_by_judged t name (Some demand) word arguments = value_rule_judged t name demand arguments
-rule_by_judged t name None word arguments = given_judged t (form_of word) _ (λ form. layer_rule_judged t name form arguments)
+value_rule_judged : (t name : List ℕ) (demand : DemandWord) (arguments : List (List ℕ)) (text : List ℕ) → Judged t (value_rule name demand arguments text)
+value_rule_judged t name demand [] text = bad t
+value_rule_judged t name demand (layer ∷ []) text = bad t
+value_rule_judged t name demand (layer ∷ column ∷ arguments) text = made_judged t (demand_by demand arguments text) _ (demand_other demand arguments text) (λ demand. tt)
 
-add_rule_judged : (t : List ℕ) (arguments : List (List ℕ)) → Judged t (add_rule arguments)
-add_rule_judged t [] = bad t
-add_rule_judged t (name ∷ []) = bad t
-add_rule_judged t (name ∷ word ∷ arguments) = rule_by_judged t name (demand_of word) word arguments
+rule_by_judged : (t name : List ℕ) (demand : Option DemandWord) (word : List ℕ) (arguments : List (List ℕ)) (text : List ℕ) → Judged t (rule_by name demand word arguments text)
+rule_by_judged t name (Some demand) word arguments text = value_rule_judged t name demand arguments text
+rule_by_judged t name None word arguments text = given_judged t (form_of word) _ (λ form. layer_rule_judged t name form arguments)
+
+add_rule_judged : (t : List ℕ) (arguments : List (List ℕ)) (text : List ℕ) → Judged t (add_rule arguments text)
+add_rule_judged t [] text = bad t
+add_rule_judged t (name ∷ []) text = bad t
+add_rule_judged t (name ∷ word ∷ arguments) text = rule_by_judged t name (demand_of word) word arguments text
 
 drop_rule_judged : (t : List ℕ) (arguments : List (List ℕ)) → Judged t (drop_rule arguments)
 drop_rule_judged t (name ∷ []) = tt
 drop_rule_judged t arguments = bad t
 
-rule_command_judged : (t : List ℕ) (action : Option Action) (arguments : List (List ℕ)) → Judged t (rule_command action arguments)
-rule_command_judged t (Some actions.Add) arguments = add_rule_judged t arguments
-rule_command_judged t (Some actions.Drop) arguments = drop_rule_judged t arguments
-rule_command_judged t action arguments = bad t
+rule_command_judged : (t : List ℕ) (action : Option Action) (arguments : List (List ℕ)) (text : List ℕ) → Judged t (rule_command action arguments text)
+rule_command_judged t (Some actions.Add) arguments text = add_rule_judged t arguments text
+rule_command_judged t (Some actions.Drop) arguments text = drop_rule_judged t arguments
+rule_command_judged t action arguments text = bad t
 
-rule_judged : (t : List ℕ) (arguments : List (List ℕ)) → Judged t (rule_arguments arguments)
-rule_judged t [] = bad t
-rule_judged t (action ∷ arguments) = rule_command_judged t (action_of action) arguments
+rule_judged : (t : List ℕ) (arguments : List (List ℕ)) (text : List ℕ) → Judged t (rule_arguments arguments text)
+rule_judged t [] text = bad t
+rule_judged t (action ∷ arguments) text = rule_command_judged t (action_of action) arguments text
 
 after_two_words_judged : (t : List ℕ) (make : List ℕ → List ℕ → List ℕ → Result Command Refusal) (arguments : List (List ℕ)) → ((layer word : List ℕ) → Judged t (make layer word t))
     → Judged t (after_two_words make arguments t)
@@ -492,7 +548,7 @@ by_verb_judged (Some verbs.Replace) rest = replace_judged (behind rest) (words r
 by_verb_judged (Some verbs.Vertex) rest = vertex_judged (behind rest) (words rest)
 by_verb_judged (Some verbs.Set) rest = set_judged (behind rest) (words rest) (skip_blanks (skip_word (skip_word (skip_word rest))))
 by_verb_judged (Some verbs.Unset) rest = unset_judged (behind rest) (words rest)
-by_verb_judged (Some verbs.Rule) rest = rule_judged (behind rest) (words rest)
+by_verb_judged (Some verbs.Rule) rest = rule_judged (behind rest) (words rest) (skip_blanks (skip_word (skip_word (skip_word (skip_word (skip_word rest))))))
 by_verb_judged (Some verbs.Undo) rest = alone_judged (behind rest) Undo (words rest) tt
 by_verb_judged (Some verbs.Redo) rest = alone_judged (behind rest) Redo (words rest) tt
 by_verb_judged (Some verbs.Layers) rest = alone_judged (behind rest) Layers (words rest) tt

@@ -22,8 +22,9 @@ use Rattle.sf_wkb.specs.declared.fault.WkbFault.{WkbFault}
 use Rattle.sf_wkb.specs.declared.grid.Grid.TheVariants.{Bits31}
 use Rattle.sf_wkb.specs.Grammar.{read as read_bytes}
 use Rattle.sf_wkb.proofs.Sized.{read_is_sized as bytes_are_sized}
+use Rattle.sf_rules.specs.Asked.{PairAsk}
 use Rattle.sf_rules.specs.declared.rule.Form.{Form}
-use Rattle.sf_rules.specs.declared.rule.Demand.{Demand}
+use Rattle.sf_commands.specs.declared.spelling.DemandWord.{DemandWord}
 use Rattle.sf_steps.specs.declared.edit.Edit.TheVariants as edits
 use Rattle.sf_steps.specs.Laws.{BringsGridPoints}
 use Rattle.sf_groups.specs.declared.member.Member.{Member}
@@ -45,7 +46,7 @@ use Rattle.sf_words.specs.Verbs.{action_of, verb_of}
 use Rattle.sf_words.specs.Naming.{given, id_named, id_of, vertex_place}
 use Rattle.sf_words.specs.Editors.{addressed}
 use Rattle.sf_values.specs.Kinds.{column_type_of, layer_kind_of, predicate_of}
-use Rattle.sf_commands.specs.Commands.{Linked, add_arguments, add_column, add_layer, add_rule, addhex_arguments, addressed_command, after_two_words, alone, ask_of, beside_of, by_editor, by_verb, by_words, bytes_command, check_arguments, column_arguments, column_command, command_of, compared_arguments, delete_arguments, demand_of, drop_column, drop_layer, drop_rule, feature_arguments, feature_command, feature_named, features_arguments, features_command, few_named, find_arguments, form_of, hex_command, ids_max, ids_of, insert_vertex, join_arguments, join_by, layer_arguments, layer_command, layer_rule, linked_of, made, match_arguments, move_layer, move_vertex, nearest_arguments, of_layer, of_text, query_arguments, query_asked, query_named, query_near, reach_arguments, reach_behind, reach_linked, reach_until, remove_vertex, rename_layer, replace_arguments, rule_arguments, rule_asked, rule_by, rule_command, second_of, set_arguments, sought_of, unset_arguments, valid_of, value_rule, vertex_arguments, vertex_command, with_geometry}
+use Rattle.sf_commands.specs.Commands.{add_arguments, add_column, add_layer, add_rule, addhex_arguments, addressed_command, after_two_words, alone, ask_of, beside_of, by_editor, by_verb, by_words, bytes_command, check_arguments, column_arguments, column_command, command_of, compared_arguments, delete_arguments, demand_by, demand_of, drop_column, drop_layer, drop_rule, feature_arguments, feature_command, feature_named, features_arguments, features_command, few_named, find_arguments, form_of, hex_command, ids_max, ids_of, insert_vertex, join_arguments, join_behind, join_near, layer_arguments, layer_command, layer_rule, Linked, linked_of, made, match_arguments, matrix_ask_of, move_layer, move_vertex, near_ask_of, near_rule, nearest_arguments, of_layer, of_text, query_arguments, query_asked, query_named, query_near, reach_arguments, reach_behind, reach_linked, reach_until, remove_vertex, rename_layer, replace_arguments, rule_arguments, rule_behind, rule_by, rule_command, second_of, set_arguments, sought_of, unset_arguments, valid_of, value_rule, vertex_arguments, vertex_command, with_geometry}
 use Rattle.sf_commands.specs.Members.{member_by, member_by_verb, member_by_words, member_of, second_is_last, third_is_last}
 use Rattle.sf_words.specs.Parts.{parts_of}
 use Rattle.sf_commands.specs.GroupTexts.{and_behind, members_behind, members_in, placed}
@@ -220,15 +221,22 @@ find_brings [] text = tt
 find_brings (layer ∷ []) text = tt
 find_brings (layer ∷ column ∷ value) text = made_brings (sought_of value text) _ (λ sought. tt)
 
-join_by_brings : (first ask : List ℕ) (predicate : Option Predicate) (second : List ℕ) (beside : Option ℕ) → Brings (join_by first ask predicate second beside)
-join_by_brings first ask (Some predicate) second beside = tt
-join_by_brings first ask None second beside = made_brings (ok_or (pattern_of ask) BadPattern) _ (λ letters. tt)
+join_behind_brings : (first : List ℕ) (ask : Result PairAsk Refusal) (arguments : List (List ℕ)) → Brings (join_behind first ask arguments)
+join_behind_brings first ask [] = tt
+join_behind_brings first ask (second ∷ beside) = made_brings (beside_of beside) _ (λ beside. made_brings ask _ (λ ask. tt))
+
+join_near_brings : (first : List ℕ) (arguments : List (List ℕ)) → Brings (join_near first arguments)
+join_near_brings first [] = tt
+join_near_brings first (distance ∷ arguments) = join_behind_brings first (near_ask_of distance) arguments
 
 join_brings : (arguments : List (List ℕ)) → Brings (join_arguments arguments)
 join_brings [] = tt
 join_brings (first ∷ []) = tt
-join_brings (first ∷ ask ∷ []) = tt
-join_brings (first ∷ ask ∷ second ∷ beside) = made_brings (beside_of beside) _ (λ beside. join_by_brings first ask (predicate_of ask) second beside)
+join_brings (first ∷ ask ∷ arguments) = by (is_near ask)
+  where
+    by : (near : Bool) → Brings (if near then join_near first arguments else join_behind first (matrix_ask_of ask) arguments)
+    by true = join_near_brings first arguments
+    by false = join_behind_brings first (matrix_ask_of ask) arguments
 
 reach_until_brings : (layer ask ids : List ℕ) (arguments : List (List ℕ)) → Brings (reach_until layer ask ids arguments)
 reach_until_brings layer ask ids [] = tt
@@ -253,42 +261,49 @@ reach_brings [] = tt
 reach_brings (layer ∷ []) = tt
 reach_brings (layer ∷ ask ∷ arguments) = reach_linked_brings layer ask (linked_of arguments)
 
-rule_asked_brings : (name : List ℕ) (form : Form) (first ask second : List ℕ) → Brings (rule_asked name form first ask second)
-rule_asked_brings name form first ask second = made_brings (ask_of ask) _ (λ ask. tt)
+rule_behind_brings : (name : List ℕ) (form : Form) (first : List ℕ) (ask : Result PairAsk Refusal) (arguments : List (List ℕ)) → Brings (rule_behind name form first ask arguments)
+rule_behind_brings name form first ask arguments = made_brings (second_of form arguments) _ (λ second. made_brings ask _ (λ ask. tt))
+
+near_rule_brings : (name : List ℕ) (form : Form) (first : List ℕ) (arguments : List (List ℕ)) → Brings (near_rule name form first arguments)
+near_rule_brings name form first [] = tt
+near_rule_brings name form first (distance ∷ arguments) = rule_behind_brings name form first (near_ask_of distance) arguments
 
 layer_rule_brings : (name : List ℕ) (form : Form) (arguments : List (List ℕ)) → Brings (layer_rule name form arguments)
 layer_rule_brings name form [] = tt
 layer_rule_brings name form (first ∷ []) = tt
-layer_rule_brings name form (first ∷ ask ∷ second) = made_brings (second_of form second) _ (λ second. rule_asked_brings name form first ask second)
+layer_rule_brings name form (first ∷ ask ∷ arguments) = by (is_near ask)
+  where
+    by : (near : Bool) → Brings (if near then near_rule name form first arguments else rule_behind name form first (matrix_ask_of ask) arguments)
+    by true = near_rule_brings name form first arguments
+    by false = rule_behind_brings name form first (matrix_ask_of ask) arguments
 
-value_rule_brings : (name : List ℕ) (demand : Demand) (arguments : List (List ℕ)) → Brings (value_rule name demand arguments)
-value_rule_brings name demand [] = tt
-value_rule_brings name demand (layer ∷ []) = tt
-value_rule_brings name demand (layer ∷ column ∷ []) = tt
-value_rule_brings name demand (layer ∷ column ∷ word ∷ more) = tt
+value_rule_brings : (name : List ℕ) (demand : DemandWord) (arguments : List (List ℕ)) (text : List ℕ) → Brings (value_rule name demand arguments text)
+value_rule_brings name demand [] text = tt
+value_rule_brings name demand (layer ∷ []) text = tt
+value_rule_brings name demand (layer ∷ column ∷ arguments) text = made_brings (demand_by demand arguments text) _ (λ demand. tt)
 
-rule_by_brings : (name : List ℕ) (demand : Option Demand) (word : List ℕ) (arguments : List (List ℕ)) → Brings (rule_by name demand word arguments)
-rule_by_brings name (Some demand) word arguments = value_rule_brings name demand arguments
-rule_by_brings name None word arguments = given_brings (form_of word) _ (λ form. layer_rule_brings name form arguments)
+rule_by_brings : (name : List ℕ) (demand : Option DemandWord) (word : List ℕ) (arguments : List (List ℕ)) (text : List ℕ) → Brings (rule_by name demand word arguments text)
+rule_by_brings name (Some demand) word arguments text = value_rule_brings name demand arguments text
+rule_by_brings name None word arguments text = given_brings (form_of word) _ (λ form. layer_rule_brings name form arguments)
 
-add_rule_brings : (arguments : List (List ℕ)) → Brings (add_rule arguments)
-add_rule_brings [] = tt
-add_rule_brings (name ∷ []) = tt
-add_rule_brings (name ∷ word ∷ arguments) = rule_by_brings name (demand_of word) word arguments
+add_rule_brings : (arguments : List (List ℕ)) (text : List ℕ) → Brings (add_rule arguments text)
+add_rule_brings [] text = tt
+add_rule_brings (name ∷ []) text = tt
+add_rule_brings (name ∷ word ∷ arguments) text = rule_by_brings name (demand_of word) word arguments text
 
 drop_rule_brings : (arguments : List (List ℕ)) → Brings (drop_rule arguments)
 drop_rule_brings (name ∷ []) = tt
 drop_rule_brings arguments = tt
 
-rule_command_brings : (action : Option Action) (arguments : List (List ℕ)) → Brings (rule_command action arguments)
-rule_command_brings (Some actions.Add) arguments = add_rule_brings arguments
-rule_command_brings (Some actions.Drop) arguments = drop_rule_brings arguments
-rule_command_brings action arguments = tt
+rule_command_brings : (action : Option Action) (arguments : List (List ℕ)) (text : List ℕ) → Brings (rule_command action arguments text)
+rule_command_brings (Some actions.Add) arguments text = add_rule_brings arguments text
+rule_command_brings (Some actions.Drop) arguments text = drop_rule_brings arguments
+rule_command_brings action arguments text = tt
 
 -- a rule brings no geometry
-rule_brings : (arguments : List (List ℕ)) → Brings (rule_arguments arguments)
-rule_brings [] = tt
-rule_brings (action ∷ arguments) = rule_command_brings (action_of action) arguments
+rule_brings : (arguments : List (List ℕ)) (text : List ℕ) → Brings (rule_arguments arguments text)
+rule_brings [] text = tt
+rule_brings (action ∷ arguments) text = rule_command_brings (action_of action) arguments text
 
 -- of questions with a geometry of their own
 with_geometry_brings : {X : Type 0} (command : List ℕ → X → Geometry → Command) (layer : List ℕ) (spelled : Result X Refusal) (geometry : Result Geometry Refusal)
@@ -347,7 +362,7 @@ by_verb_brings (Some verbs.Replace) rest = replace_brings ById (words rest) (ski
 by_verb_brings (Some verbs.Vertex) rest = vertex_brings ById (words rest)
 by_verb_brings (Some verbs.Set) rest = set_brings ById (words rest) (skip_blanks (skip_word (skip_word (skip_word rest))))
 by_verb_brings (Some verbs.Unset) rest = unset_brings ById (words rest)
-by_verb_brings (Some verbs.Rule) rest = rule_brings (words rest)
+by_verb_brings (Some verbs.Rule) rest = rule_brings (words rest) (skip_blanks (skip_word (skip_word (skip_word (skip_word (skip_word rest))))))
 by_verb_brings (Some verbs.Undo) rest = alone_brings Undo (words rest) tt
 by_verb_brings (Some verbs.Redo) rest = alone_brings Redo (words rest) tt
 by_verb_brings (Some verbs.Layers) rest = alone_brings Layers (words rest) tt

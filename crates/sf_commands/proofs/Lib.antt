@@ -1,3 +1,5 @@
+pub mod EachLemmas
+pub mod ValueListLemmas
 pub mod AddLemmas
 pub mod VertexLemmas
 pub mod QueryLemmas

@@ -1,5 +1,6 @@
 -- The command of a line.
-use Rattle.std.specs.Prelude.{◌≡◌, ℕ, Bool, true, false, ◌&&◌, List, [], ◌∷◌, length, Option, None, Some, Result, Ok, Err, nat_lt, nat_le, option_and_then, option_map, bytes_eq, codes, if◌then◌else◌}
+use Rattle.std.specs.Prelude.{◌≡◌, ℕ, Bool, true, false, ◌&&◌, ◌||◌, List, [], ◌∷◌, length, Option, None, Some, is_some, Result, Ok, Err, nat_lt, nat_le, option_and_then, option_map, bytes_eq, codes, if◌then◌else◌}
+use Rattle.std.specs.List.{list_all}
 use Rattle.std.specs.Map.{lookup}
 use Rattle.std.specs.Option.{ok_or}
 use Rattle.hex.specs.declared.error.FromHexError.{FromHexError}
@@ -17,25 +18,34 @@ use Rattle.sf_known.specs.Patterns.{pattern_of}
 use Rattle.sf_text_lines.specs.Lines.{line_max}
 use Rattle.sf_wkt.specs.declared.fault.WktFault.{WktFault}
 use Rattle.sf_wkt.specs.Faults.{refusal_of}
+use Rattle.sf_wkt.specs.Tokens.{is_blank}
 use Rattle.sf_wkt.specs.Grammar.{read}
 use Rattle.sf_wkb.specs.declared.fault.WkbFault.{WkbFault}
 use Rattle.sf_wkb.specs.Faults.{refusal_of as refusal_of_bytes}
 use Rattle.sf_wkb.specs.Grammar.{read as read_bytes}
 use Rattle.sf_features.specs.declared.attr_value.AttrValue.{AttrValue}
-use Rattle.sf_query.specs.declared.ask.Ask.{Ask}
-use Rattle.sf_query.specs.declared.ask.Ask.TheVariants.{Matching, Named}
+use Rattle.sf_layers.specs.declared.value_range.ValueRange.{ValueRange}
+use Rattle.sf_rules.specs.Asked.{Ask}
+use Rattle.sf_rules.specs.Asked.{Matching, Named}
+use Rattle.sf_rules.specs.Asked.{Matrix, Near as near_ask, PairAsk}
 use Rattle.sf_rules.specs.declared.rule.Form.{Form}
 use Rattle.sf_rules.specs.declared.rule.Form.TheVariants.{Never, Each}
 use Rattle.sf_rules.specs.declared.rule.Says.TheVariants.{OfLayers, OfValues}
 use Rattle.sf_rules.specs.declared.rule.Demand.{Demand}
-use Rattle.sf_rules.specs.declared.rule.Demand.TheVariants.{Required, Unique}
+use Rattle.sf_rules.specs.declared.rule.Demand.TheVariants.{InRange, OneOf, Required, Unique}
+use Rattle.sf_rules.specs.Rules.{values_max}
 use Rattle.sf_steps.specs.declared.edit.Edit.TheVariants as edits
 use Rattle.sf_words.specs.declared.verb.Verb.{Verb}
 use Rattle.sf_words.specs.declared.verb.Verb.TheVariants as verbs
 use Rattle.sf_words.specs.declared.verb.Action.{Action}
 use Rattle.sf_words.specs.declared.verb.Action.TheVariants as actions
 use Rattle.sf_commands.specs.declared.command.Command.{Command}
-use Rattle.sf_commands.specs.declared.command.Command.TheVariants.{Edit, AddRule, DropRule, Undo, Redo, Layers, Columns, Rules, Show, Get, Find, Check, Hex, Simple, Extent, Measured, Distance, Nearest, Reach, ReachUntil, Relate, Match, Query, Near, JoinMatching, JoinNamed}
+use Rattle.sf_commands.specs.declared.command.Sought.{Sought}
+use Rattle.sf_commands.specs.declared.command.Sought.TheVariants as soughts
+use Rattle.sf_commands.specs.declared.spelling.DemandWord.{DemandWord}
+use Rattle.sf_commands.specs.declared.spelling.DemandWord.TheVariants as demand_words
+use Rattle.sf_commands.specs.ValueLists.{around_to, listed, trimmed}
+use Rattle.sf_commands.specs.declared.command.Command.TheVariants.{Edit, AddRule, DropRule, Undo, Redo, Layers, Columns, Rules, Show, Get, Find, Check, Hex, Simple, Extent, Measured, Distance, Nearest, Reach, ReachUntil, Relate, Match, Query, Near, Join}
 use Rattle.sf_words.specs.declared.naming.Naming.{Naming}
 use Rattle.sf_words.specs.declared.naming.Naming.TheVariants.{ById}
 use Rattle.sf_words.specs.Words.{words, skip_blanks, skip_word, trimmed_end}
@@ -247,12 +257,37 @@ features_command command (Err refusal) = Err refusal
 abbrev pub features_arguments : (List ℕ → List ℕ → Command) → List (List ℕ) → Result Command Refusal
 features_arguments command arguments = features_command command (features_named arguments)
 
--- the value that is sought, where there are words for one; it is the text
-abbrev pub sought_of : List (List ℕ) → List ℕ → Result (Option AttrValue) Refusal
-sought_of [] text = Ok None
-sought_of (first ∷ more) text = given (value_of (trimmed_end text)) (λ value. Ok (Some value))
+-- the value that a text spells, with blanks around it or without
+abbrev pub value_between : List ℕ → Option AttrValue
+value_between text = value_of (trimmed text)
 
--- the command of the words after `find`: a layer and a column; a value is the rest of the line from the third of them on
+-- the values that a text lists between commas: one to 1,000 of them
+abbrev pub values_of : List ℕ → Option (List AttrValue)
+values_of text = let parts = listed text in if nat_lt 0 (length parts) && nat_le (length parts) values_max then each value_between parts else None
+
+-- the end of a range that a text spells: none where it has blanks alone, or nothing
+abbrev pub end_of : List ℕ → Result (Option AttrValue) Refusal
+end_of text = if list_all is_blank text then Ok None else given (value_between text) (λ value. Ok (Some value))
+
+-- the range of two ends, of which one is given at least
+abbrev pub range_with : Option AttrValue → Option AttrValue → Result ValueRange Refusal
+range_with from to = if is_some from || is_some to then Ok (record { from = from; to = to }) else Err BadCommand
+
+-- the range whose ends two texts spell
+abbrev pub range_between : List ℕ × List ℕ → Result ValueRange Refusal
+range_between ends = made (end_of ends.0) (λ from. made (end_of ends.1) (λ to. range_with from to))
+
+-- what is sought by a text: a range where the word `to` stands in it, and else a value
+abbrev pub sought_by : List ℕ → Option (List ℕ × List ℕ) → Result Sought Refusal
+sought_by text (Some ends) = made (range_between ends) (λ range. Ok (soughts.Between range))
+sought_by text None = given (value_between text) (λ value. Ok (soughts.Value value))
+
+-- what is sought, of the words behind a column; they are the text
+abbrev pub sought_of : List (List ℕ) → List ℕ → Result Sought Refusal
+sought_of [] text = Ok soughts.Any
+sought_of (first ∷ more) text = sought_by text (around_to text)
+
+-- the command of the words after `find`: a layer and a column; a value or a range is the rest of the line from the third of them on
 abbrev pub find_arguments : List (List ℕ) → List ℕ → Result Command Refusal
 find_arguments (layer ∷ column ∷ value) text = made (sought_of value text) (λ sought. Ok (Find layer column sought))
 find_arguments arguments text = Err BadCommand
@@ -321,27 +356,6 @@ beside_of [] = Ok None
 beside_of (id ∷ []) = given (id_of id) (λ id. Ok (Some id))
 beside_of arguments = Err BadCommand
 
--- `join` by a predicate
-abbrev pub join_named : List ℕ → Predicate → List ℕ → Option ℕ → Result Command Refusal
-join_named first predicate second beside = Ok (JoinNamed first predicate second beside)
-
--- `join` by a pattern, if it could be read
-abbrev pub join_matching : List ℕ → Result (List Letter) Refusal → List ℕ → Option ℕ → Result Command Refusal
-join_matching first pattern second beside = made pattern (λ letters. Ok (JoinMatching first letters second beside))
-
--- a word that names no predicate is taken as a pattern
-abbrev pub join_by : List ℕ → List ℕ → Option Predicate → List ℕ → Option ℕ → Result Command Refusal
-join_by first ask (Some predicate) second beside = join_named first predicate second beside
-join_by first ask None second beside = join_matching first (ok_or (pattern_of ask) BadPattern) second beside
-
-abbrev pub join_asked : List ℕ → List ℕ → List ℕ → Option ℕ → Result Command Refusal
-join_asked first ask second beside = join_by first ask (predicate_of ask) second beside
-
--- the command of the words after `join`: a layer, what is asked, another layer, and an identifier where one is given
-abbrev pub join_arguments : List (List ℕ) → Result Command Refusal
-join_arguments (first ∷ ask ∷ second ∷ beside) = made (beside_of beside) (λ beside. join_asked first ask second beside)
-join_arguments arguments = Err BadCommand
-
 -- what is asked by a word, which may name a predicate; one that names none is taken as a pattern
 abbrev pub ask_by : List ℕ → Option Predicate → Result Ask Refusal
 ask_by word (Some predicate) = Ok (Named predicate)
@@ -350,6 +364,33 @@ ask_by word None = made (ok_or (pattern_of word) BadPattern) (λ letters. Ok (Ma
 -- what a word asks of two features
 abbrev pub ask_of : List ℕ → Result Ask Refusal
 ask_of word = ask_by word (predicate_of word)
+
+-- the same, of two features by their matrix
+abbrev pub matrix_ask_of : List ℕ → Result PairAsk Refusal
+matrix_ask_of word = made (ask_of word) (λ ask. Ok (Matrix ask))
+
+-- and by their distance
+abbrev pub near_ask_of : List ℕ → Result PairAsk Refusal
+near_ask_of distance = made (ok_or (reach_of distance) BadCommand) (λ reach. Ok (near_ask reach))
+
+-- a join of two layers, if what is asked could be read
+abbrev pub join_asked : List ℕ → Result PairAsk Refusal → List ℕ → Option ℕ → Result Command Refusal
+join_asked first ask second beside = made ask (λ ask. Ok (Join first ask second beside))
+
+-- `join` of what is asked, which could be read or not, and the words behind it: another layer, and an identifier where one is given
+abbrev pub join_behind : List ℕ → Result PairAsk Refusal → List (List ℕ) → Result Command Refusal
+join_behind first ask (second ∷ beside) = made (beside_of beside) (λ beside. join_asked first ask second beside)
+join_behind first ask arguments = Err BadCommand
+
+-- `join` by a distance, which is the next word
+abbrev pub join_near : List ℕ → List (List ℕ) → Result Command Refusal
+join_near first (distance ∷ arguments) = join_behind first (near_ask_of distance) arguments
+join_near first arguments = Err BadCommand
+
+-- the command of the words after `join`: a layer, what is asked, another layer, and an identifier where one is given
+abbrev pub join_arguments : List (List ℕ) → Result Command Refusal
+join_arguments (first ∷ ask ∷ arguments) = if is_near ask then join_near first arguments else join_behind first (matrix_ask_of ask) arguments
+join_arguments arguments = Err BadCommand
 
 -- identifiers, and behind them the words after `until`, where that stands
 abbrev pub Linked : Type 0
@@ -402,33 +443,56 @@ second_of Each (some ∷ second ∷ []) = if bytes_eq some (codes "some") then O
 second_of form arguments = Err BadCommand
 
 -- a new rule between layers, if what is asked could be read
-abbrev pub rule_asked : List ℕ → Form → List ℕ → List ℕ → List ℕ → Result Command Refusal
+abbrev pub rule_asked : List ℕ → Form → List ℕ → Result PairAsk Refusal → List ℕ → Result Command Refusal
 rule_asked name form first ask second =
-    made (ask_of ask) (λ ask. Ok (AddRule (record { name = name; says = OfLayers (record { form = form; first = first; ask = ask; second = second }) })))
+    made ask (λ ask. Ok (AddRule (record { name = name; says = OfLayers (record { form = form; first = first; ask = ask; second = second }) })))
+
+-- a rule of what is asked, which could be read or not, and the words behind it: another layer
+abbrev pub rule_behind : List ℕ → Form → List ℕ → Result PairAsk Refusal → List (List ℕ) → Result Command Refusal
+rule_behind name form first ask arguments = made (second_of form arguments) (λ second. rule_asked name form first ask second)
+
+-- a rule by a distance, which is the next word
+abbrev pub near_rule : List ℕ → Form → List ℕ → List (List ℕ) → Result Command Refusal
+near_rule name form first (distance ∷ arguments) = rule_behind name form first (near_ask_of distance) arguments
+near_rule name form first arguments = Err BadCommand
 
 -- a rule between layers, of the words behind its form: a layer, what is asked, and another layer
 abbrev pub layer_rule : List ℕ → Form → List (List ℕ) → Result Command Refusal
-layer_rule name form (first ∷ ask ∷ second) = made (second_of form second) (λ second. rule_asked name form first ask second)
+layer_rule name form (first ∷ ask ∷ arguments) =
+    if is_near ask then near_rule name form first arguments else rule_behind name form first (matrix_ask_of ask) arguments
 layer_rule name form arguments = Err BadCommand
 
 -- what a word demands of the values in a column
-abbrev pub demand_of : List ℕ → Option Demand
-demand_of word = lookup (bytes_eq word) ((codes "unique", Unique) ∷ (codes "required", Required) ∷ [])
+abbrev pub demand_of : List ℕ → Option DemandWord
+demand_of word = lookup (bytes_eq word) ((codes "unique", demand_words.Unique) ∷ (codes "required", demand_words.Required)
+    ∷ (codes "one-of", demand_words.OneOf) ∷ (codes "range", demand_words.Range) ∷ [])
 
--- a rule on values, of the words behind its demand: a layer and a column
-abbrev pub value_rule : List ℕ → Demand → List (List ℕ) → Result Command Refusal
-value_rule name demand (layer ∷ column ∷ []) = Ok (AddRule (record { name = name; says = OfValues (record { demand = demand; layer = layer; column = column }) }))
-value_rule name demand arguments = Err BadCommand
+-- what is demanded, of a word and the words behind the column, which name values; they are the text
+abbrev pub demand_by : DemandWord → List (List ℕ) → List ℕ → Result Demand Refusal
+demand_by demand_words.Unique [] text = Ok Unique
+demand_by demand_words.Required [] text = Ok Required
+demand_by demand_words.OneOf (first ∷ more) text = given (values_of text) (λ values. Ok (OneOf values))
+demand_by demand_words.Range (first ∷ more) text = given (around_to text) (λ ends. made (range_between ends) (λ range. Ok (InRange range)))
+demand_by demand arguments text = Err BadCommand
+
+-- a new rule on the values in a column
+abbrev pub rule_on_values : List ℕ → List ℕ → List ℕ → Demand → Result Command Refusal
+rule_on_values name layer column demand = Ok (AddRule (record { name = name; says = OfValues (record { demand = demand; layer = layer; column = column }) }))
+
+-- a rule on values, of the words behind its demand: a layer and a column; the values that it names are the text
+abbrev pub value_rule : List ℕ → DemandWord → List (List ℕ) → List ℕ → Result Command Refusal
+value_rule name demand (layer ∷ column ∷ arguments) text = made (demand_by demand arguments text) (rule_on_values name layer column)
+value_rule name demand arguments text = Err BadCommand
 
 -- a rule of a name, by what it demands of values, or else by its form
-abbrev pub rule_by : List ℕ → Option Demand → List ℕ → List (List ℕ) → Result Command Refusal
-rule_by name (Some demand) word arguments = value_rule name demand arguments
-rule_by name None word arguments = given (form_of word) (λ form. layer_rule name form arguments)
+abbrev pub rule_by : List ℕ → Option DemandWord → List ℕ → List (List ℕ) → List ℕ → Result Command Refusal
+rule_by name (Some demand) word arguments text = value_rule name demand arguments text
+rule_by name None word arguments text = given (form_of word) (λ form. layer_rule name form arguments)
 
--- the words after `rule add`: a name, a demand or a form, and what the rule is about
-abbrev pub add_rule : List (List ℕ) → Result Command Refusal
-add_rule (name ∷ word ∷ arguments) = rule_by name (demand_of word) word arguments
-add_rule arguments = Err BadCommand
+-- the words after `rule add`: a name, a demand or a form, and what the rule is about; the text is the rest of the line from the fifth of them on
+abbrev pub add_rule : List (List ℕ) → List ℕ → Result Command Refusal
+add_rule (name ∷ word ∷ arguments) text = rule_by name (demand_of word) word arguments text
+add_rule arguments text = Err BadCommand
 
 -- the words after `rule drop`: a name
 abbrev pub drop_rule : List (List ℕ) → Result Command Refusal
@@ -436,15 +500,15 @@ drop_rule (name ∷ []) = Ok (DropRule name)
 drop_rule arguments = Err BadCommand
 
 -- what is done with a rule, and the words after it
-abbrev pub rule_command : Option Action → List (List ℕ) → Result Command Refusal
-rule_command (Some actions.Add) arguments = add_rule arguments
-rule_command (Some actions.Drop) arguments = drop_rule arguments
-rule_command action arguments = Err BadCommand
+abbrev pub rule_command : Option Action → List (List ℕ) → List ℕ → Result Command Refusal
+rule_command (Some actions.Add) arguments text = add_rule arguments text
+rule_command (Some actions.Drop) arguments text = drop_rule arguments
+rule_command action arguments text = Err BadCommand
 
--- the command of the words after `rule`
-abbrev pub rule_arguments : List (List ℕ) → Result Command Refusal
-rule_arguments [] = Err BadCommand
-rule_arguments (action ∷ arguments) = rule_command (action_of action) arguments
+-- the command of the words after `rule`; the text is the rest of the line from the sixth of them on
+abbrev pub rule_arguments : List (List ℕ) → List ℕ → Result Command Refusal
+rule_arguments [] text = Err BadCommand
+rule_arguments (action ∷ arguments) text = rule_command (action_of action) arguments text
 
 -- a command with a layer's name alone after its verb
 abbrev pub of_layer : (List ℕ → Command) → List (List ℕ) → Result Command Refusal
@@ -467,7 +531,7 @@ by_verb (Some verbs.Replace) rest = replace_arguments ById (words rest) (skip_bl
 by_verb (Some verbs.Vertex) rest = vertex_arguments ById (words rest)
 by_verb (Some verbs.Set) rest = set_arguments ById (words rest) (skip_blanks (skip_word (skip_word (skip_word rest))))
 by_verb (Some verbs.Unset) rest = unset_arguments ById (words rest)
-by_verb (Some verbs.Rule) rest = rule_arguments (words rest)
+by_verb (Some verbs.Rule) rest = rule_arguments (words rest) (skip_blanks (skip_word (skip_word (skip_word (skip_word (skip_word rest))))))
 by_verb (Some verbs.Undo) rest = alone Undo (words rest)
 by_verb (Some verbs.Redo) rest = alone Redo (words rest)
 by_verb (Some verbs.Layers) rest = alone Layers (words rest)

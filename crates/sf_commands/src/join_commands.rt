@@ -1,27 +1,54 @@
 //! Commands that compare the features of two layers.
-ghost use Rattle.std.specs.Prelude.{◌≡◌, ok_or};
-ghost use Rattle.sf_known.specs.Patterns.{pattern_of};
-ghost use Rattle.sf_refusals.specs.declared.refusal.Refusal.TheVariants.{BadPattern};
-ghost use Rattle.sf_commands.specs.Commands.{beside_of as beside_spelled, join_arguments as join_command_of, join_asked, join_matching, join_named, OrMemory};
+ghost use Rattle.std.specs.Prelude.{◌≡◌, Ok};
+ghost use Rattle.sf_commands.specs.declared.command.Command.TheVariants.{Join};
+ghost use Rattle.sf_commands.specs.Commands.{beside_of as beside_spelled, join_arguments as join_command_of, join_behind as join_behind_of, join_near as join_near_of, matrix_ask_of, OrMemory};
 ghost use Rattle.sf_words.specs.Words.{words as words_of};
 
 use super::command::Command;
-use sf_known::{Pattern, Predicate};
+use super::spelling::{matrix_ask, near_ask};
 use sf_refusals::Refusal;
-use sf_values::{predicate_of, text_of};
-use sf_words::{Words, id_of};
+use sf_rules::PairAsk;
+use sf_values::text_of;
+use sf_words::{Words, id_of, is_near};
 use std::alloc::Global;
 
-/// The command of the words after `join`: a layer, a predicate or pattern, another layer, and an identifier where one is
-/// given.
+/// The command of the words after `join`: a layer, what is asked, another layer, and an identifier where one is given.
 pub(crate) fn join_arguments(alloc: Global, mut words: Words<'_>) -> Result<Command, Refusal>
     ensures { OrMemory (join_command_of (words_of words.entry)) result }
 {
     let first = words.next()?;
     let ask = words.next()?;
+    if is_near(ask) {
+        join_near(alloc, first, words)
+    } else {
+        join_by_matrix(alloc, first, ask, words)
+    }
+}
+
+/// The join by a distance, which is the next of the words.
+fn join_near(alloc: Global, first: &str, mut words: Words<'_>) -> Result<Command, Refusal>
+    ensures { OrMemory (join_near_of first.now (words_of words.entry)) result }
+{
+    let distance = words.next()?;
     let second = words.next()?;
     let beside = beside_of(words)?;
-    join_asked(alloc, first, ask, second, beside)
+    let ask = near_ask(distance)?;
+    join_of(alloc, first, ask, second, beside)
+}
+
+/// The join by a matrix.
+fn join_by_matrix(
+    alloc: Global,
+    first: &str,
+    ask: &str,
+    mut words: Words<'_>,
+) -> Result<Command, Refusal>
+    ensures { OrMemory (join_behind_of first.now (matrix_ask_of ask.now) (words_of words.entry)) result }
+{
+    let second = words.next()?;
+    let beside = beside_of(words)?;
+    let ask = matrix_ask(ask)?;
+    join_of(alloc, first, ask, second, beside)
 }
 
 /// The identifier that the last word spells, or None where no word stands there.
@@ -36,49 +63,17 @@ fn beside_of(mut words: Words<'_>) -> Result<Option<u32>, Refusal>
     Ok(Some(id))
 }
 
-/// The command of a word that asks: one that names no predicate is taken as a pattern.
-fn join_asked(
+/// The command of two layers and what is asked.
+fn join_of(
     alloc: Global,
     first: &str,
-    ask: &str,
+    ask: PairAsk,
     second: &str,
     beside: Option<u32>,
 ) -> Result<Command, Refusal>
-    ensures { OrMemory (join_asked first.now ask.now second.now beside) result }
-{
-    match predicate_of(ask) {
-        Some(predicate) => join_named(alloc, first, predicate, second, beside),
-        None => join_matching(alloc, first, ask, second, beside),
-    }
-}
-
-/// The command of two layers and a predicate.
-fn join_named(
-    alloc: Global,
-    first: &str,
-    predicate: Predicate,
-    second: &str,
-    beside: Option<u32>,
-) -> Result<Command, Refusal>
-    ensures { OrMemory (join_named first.now predicate second.now beside) result }
+    ensures { OrMemory (Ok (Join first.now ask second.now beside)) result }
 {
     let first = text_of(alloc, first)?;
     let second = text_of(alloc, second)?;
-    Ok(Command::JoinNamed(first, predicate, second, beside))
-}
-
-/// The command of two layers and a word for a pattern.
-fn join_matching(
-    alloc: Global,
-    first: &str,
-    word: &str,
-    second: &str,
-    beside: Option<u32>,
-) -> Result<Command, Refusal>
-    ensures { OrMemory (join_matching first.now (ok_or (pattern_of word.now) BadPattern) second.now beside) result }
-{
-    let pattern = Pattern::parse(word)?;
-    let first = text_of(alloc, first)?;
-    let second = text_of(alloc, second)?;
-    Ok(Command::JoinMatching(first, pattern, second, beside))
+    Ok(Command::Join(first, ask, second, beside))
 }

@@ -1,17 +1,22 @@
 //! Commands that look features up: by their identifiers, what is measured of these, and by a value.
-ghost use Rattle.std.specs.Prelude.{◌≡◌, ok_or};
+ghost use Rattle.std.specs.Prelude.{◌≡◌, Ok, ok_or};
 ghost use Rattle.sf_refusals.specs.declared.refusal.Refusal.TheVariants.{BadCommand};
-ghost use Rattle.sf_commands.specs.Commands.{features_arguments, features_named, find_arguments as find_command_of, ids_of as ids_spelled, sought_of as sought_spelled, OrMemory};
+ghost use Rattle.sf_commands.specs.Commands.{features_arguments, features_named, find_arguments as find_command_of, ids_of as ids_spelled, made, range_between as range_spelled, sought_by as sought_by_of, sought_of as sought_spelled, OrMemory};
 ghost use Rattle.sf_commands.specs.declared.command.Command.TheVariants.{Get, Measured};
+ghost use Rattle.sf_commands.specs.declared.command.Sought.TheVariants.{Between};
+ghost use Rattle.sf_commands.specs.ValueLists.{around_to as around_to_of};
 ghost use Rattle.sf_measure.specs.declared.measure.Measure.TheVariants.{Area, Length};
 ghost use Rattle.sf_words.specs.Words.{words as words_of, skip_blanks, skip_word};
 
-use super::command::Command;
-use sf_features::{AttrValue, Text};
+use super::boxed::BoxedRange;
+use super::command::{Command, Sought};
+use super::named_values::{range_between, value_between};
+use super::value_lists::around_to;
+use sf_features::Text;
 use sf_measure::Measure;
 use sf_refusals::Refusal;
-use sf_values::{text_of, value_of};
-use sf_words::{Identifiers, Words, id_of, trimmed_end};
+use sf_values::text_of;
+use sf_words::{Identifiers, Words, id_of};
 use std::alloc::Global;
 
 /// How many identifiers `get`, `area` and `length` take at most.
@@ -65,8 +70,7 @@ fn ids_of(alloc: Global, mut words: Words<'_>) -> Result<Identifiers, Refusal>
     Err(Refusal::BadCommand)
 }
 
-/// The command of the words after `find`. A value is the rest of the line from the third of them on, without blanks
-/// at its end.
+/// The command of the words after `find`. A value or a range is the rest of the line from the third of them on.
 pub(crate) fn find_arguments(alloc: Global, mut words: Words<'_>) -> Result<Command, Refusal>
     ensures { OrMemory (find_command_of (words_of words.entry) (skip_blanks (skip_word (skip_word words.entry)))) result }
 {
@@ -78,16 +82,30 @@ pub(crate) fn find_arguments(alloc: Global, mut words: Words<'_>) -> Result<Comm
     Ok(Command::Find(layer, column, sought))
 }
 
-/// The value that the rest of a line spells, or None where nothing stands there.
-fn sought_of(alloc: Global, words: Words<'_>) -> Result<Option<AttrValue>, Refusal>
+/// What the rest of a line says of the values that are sought: any where nothing stands there.
+fn sought_of(alloc: Global, words: Words<'_>) -> Result<Sought, Refusal>
     ensures { OrMemory (sought_spelled (words_of words.entry) (skip_blanks words.entry)) result }
 {
-    let Ok(text) = words.rest() else {
-        return Ok(None);
-    };
-    let value = value_of(alloc, trimmed_end(text))?;
-    if value.is_none() {
-        return Err(Refusal::BadCommand);
+    match words.rest() {
+        Ok(text) => sought_by(alloc, text),
+        Err(_) => Ok(Sought::Any),
     }
-    Ok(value)
+}
+
+/// What a text says of them: a range where the word `to` stands in it, and else a value.
+fn sought_by(alloc: Global, text: &str) -> Result<Sought, Refusal>
+    ensures { OrMemory (sought_by_of text.now (around_to_of text.now)) result }
+{
+    match around_to(text) {
+        Some((from, to)) => sought_between(alloc, from, to),
+        None => Ok(Sought::Value(value_between(alloc, text)?)),
+    }
+}
+
+/// What the ends of a range say of them.
+fn sought_between(alloc: Global, from: &str, to: &str) -> Result<Sought, Refusal>
+    ensures { OrMemory (made (range_spelled (from.now, to.now)) (λ range. Ok (Between range))) result }
+{
+    let range = range_between(alloc, from, to)?;
+    Ok(Sought::Between(BoxedRange::new(alloc, range)?))
 }

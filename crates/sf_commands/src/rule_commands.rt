@@ -1,21 +1,27 @@
 //! Commands about rules between the features of layers, and on their values.
-ghost use Rattle.std.specs.Prelude.{◌≡◌, Ok, Err, MatchResult};
-ghost use Rattle.sf_commands.specs.Commands.{rule_arguments as rule_command_of, add_rule as add_rule_of, drop_rule as drop_rule_of, form_of as form_named, layer_rule as layer_rule_of, rule_asked as rule_asked_of, second_of as second_spelled, value_rule as value_rule_of, alone, OrMemory};
+ghost use Rattle.std.specs.Prelude.{◌≡◌, ◌≢◌, [], Ok, Err, MatchResult};
+ghost use Rattle.sf_commands.specs.Commands.{rule_arguments as rule_command_of, add_rule as add_rule_of, demand_by as demand_by_of, drop_rule as drop_rule_of, form_of as form_named, layer_rule as layer_rule_of, made, matrix_ask_of, near_rule as near_rule_of, range_between as range_spelled, rule_asked as rule_asked_of, rule_behind, rule_on_values as rule_on_values_of, second_of as second_spelled, value_rule as value_rule_of, values_of as values_spelled, alone as alone_of, OrMemory};
 ghost use Rattle.sf_words.specs.Naming.{given};
 ghost use Rattle.sf_commands.specs.declared.command.Command.TheVariants.{Rules};
-ghost use Rattle.sf_words.specs.Words.{words as words_of};
+ghost use Rattle.sf_commands.specs.ValueLists.{around_to as around_to_of};
+ghost use Rattle.sf_refusals.specs.declared.refusal.Refusal.TheVariants.{BadCommand};
+ghost use Rattle.sf_rules.specs.declared.rule.Demand.TheVariants.{InRange, OneOf};
+ghost use Rattle.sf_words.specs.Words.{words as words_of, skip_blanks, skip_word};
 
+use super::boxed::BoxedRule;
 use super::command::Command;
-use super::spelling::{ask_of, demand_of, form_of};
+use super::named_values::{range_between, values_of};
+use super::spelling::{DemandWord, demand_of, form_of, matrix_ask, near_ask};
+use super::value_lists::around_to;
 use sf_refusals::Refusal;
-use sf_rules::{Demand, Form, LayerRule, Rule, Says, ValueRule};
+use sf_rules::{Demand, Form, LayerRule, PairAsk, Rule, Says, ValueRule};
 use sf_values::text_of;
-use sf_words::{Action, Words, action_of};
+use sf_words::{Action, Words, action_of, is_near};
 use std::alloc::Global;
 
 /// The command of the words after `rule`.
 pub(crate) fn rule_arguments(alloc: Global, mut words: Words<'_>) -> Result<Command, Refusal>
-    ensures { OrMemory (rule_command_of (words_of words.entry)) result }
+    ensures { OrMemory (rule_command_of (words_of words.entry) (skip_blanks (skip_word (skip_word (skip_word (skip_word (skip_word words.entry))))))) result }
 {
     match action_of(words.next()?) {
         Some(Action::Add) => add_rule(alloc, words),
@@ -25,7 +31,7 @@ pub(crate) fn rule_arguments(alloc: Global, mut words: Words<'_>) -> Result<Comm
 }
 
 fn add_rule(alloc: Global, mut words: Words<'_>) -> Result<Command, Refusal>
-    ensures { OrMemory (add_rule_of (words_of words.entry)) result }
+    ensures { OrMemory (add_rule_of (words_of words.entry) (skip_blanks (skip_word (skip_word (skip_word (skip_word words.entry)))))) result }
 {
     let name = words.next()?;
     let word = words.next()?;
@@ -39,22 +45,76 @@ fn add_rule(alloc: Global, mut words: Words<'_>) -> Result<Command, Refusal>
 fn value_rule(
     alloc: Global,
     name: &str,
-    demand: Demand,
+    demand: DemandWord,
     mut words: Words<'_>,
 ) -> Result<Command, Refusal>
-    ensures { OrMemory (value_rule_of name.now demand (words_of words.entry)) result }
+    ensures { OrMemory (value_rule_of name.now demand (words_of words.entry) (skip_blanks (skip_word (skip_word words.entry)))) result }
 {
     let layer = words.next()?;
     let column = words.next()?;
+    let demand = demand_by(alloc, demand, words)?;
+    rule_on_values(alloc, name, layer, column, demand)
+}
+
+/// What is demanded, of a word and the words behind the column: the values that it names, where it does.
+fn demand_by(alloc: Global, word: DemandWord, words: Words<'_>) -> Result<Demand, Refusal>
+    ensures { OrMemory (demand_by_of word (words_of words.entry) (skip_blanks words.entry)) result }
+{
+    match word {
+        DemandWord::Unique => alone(words, Demand::Unique),
+        DemandWord::Required => alone(words, Demand::Required),
+        DemandWord::OneOf => one_of(alloc, words.rest()?),
+        DemandWord::Range => in_range(alloc, words.rest()?),
+    }
+}
+
+/// A demand behind whose column no word stands.
+fn alone(words: Words<'_>, demand: Demand) -> Result<Demand, Refusal>
+    ensures { MatchResult result (λ made. (words_of words.entry ≡ []) × (made ≡ demand)) (λ refusal. (words_of words.entry ≢ []) × (refusal ≡ BadCommand)) }
+{
     words.finish()?;
-    Ok(Command::AddRule(Rule {
-        name: text_of(alloc, name)?,
+    Ok(demand)
+}
+
+/// The demand that each value is one of those that a text lists.
+fn one_of(alloc: Global, text: &str) -> Result<Demand, Refusal>
+    ensures { OrMemory (given (values_spelled text.now) (λ values. Ok (OneOf values))) result }
+{
+    Ok(Demand::OneOf(values_of(alloc, text)?))
+}
+
+/// The demand that each value is in the range that a text names.
+fn in_range(alloc: Global, text: &str) -> Result<Demand, Refusal>
+    ensures { OrMemory (given (around_to_of text.now) (λ ends. made (range_spelled ends) (λ range. Ok (InRange range)))) result }
+{
+    let Some((from, to)) = around_to(text) else {
+        return Err(Refusal::BadCommand);
+    };
+    Ok(Demand::InRange(range_between(alloc, from, to)?))
+}
+
+/// The command of a new rule on values.
+fn rule_on_values(
+    alloc: Global,
+    name: &str,
+    layer: &str,
+    column: &str,
+    demand: Demand,
+) -> Result<Command, Refusal>
+    ensures { OrMemory (rule_on_values_of name.now layer.now column.now demand) result }
+{
+    let name = text_of(alloc, name)?;
+    let layer = text_of(alloc, layer)?;
+    let column = text_of(alloc, column)?;
+    let rule = Rule {
+        name,
         says: Says::OfValues(ValueRule {
             demand,
-            layer: text_of(alloc, layer)?,
-            column: text_of(alloc, column)?,
+            layer,
+            column,
         }),
-    }))
+    };
+    Ok(Command::AddRule(BoxedRule::new(alloc, rule)?))
 }
 
 /// A rule between layers, whose form a word spells.
@@ -78,8 +138,43 @@ fn layer_rule(
 {
     let first = words.next()?;
     let ask = words.next()?;
+    if is_near(ask) {
+        near_rule(alloc, name, form, first, words)
+    } else {
+        matrix_rule(alloc, name, form, first, ask, words)
+    }
+}
+
+/// A rule by a distance, which is the next of the words.
+fn near_rule(
+    alloc: Global,
+    name: &str,
+    form: Form,
+    first: &str,
+    mut words: Words<'_>,
+) -> Result<Command, Refusal>
+    ensures { OrMemory (near_rule_of name.now form first.now (words_of words.entry)) result }
+{
+    let distance = words.next()?;
     let second = second_of(form, words)?;
-    rule_asked(alloc, name, form, first, ask, second)
+    let ask = near_ask(distance)?;
+    rule_between(alloc, name, form, first, ask, second)
+}
+
+/// A rule by a matrix.
+fn matrix_rule(
+    alloc: Global,
+    name: &str,
+    form: Form,
+    first: &str,
+    ask: &str,
+    words: Words<'_>,
+) -> Result<Command, Refusal>
+    ensures { OrMemory (rule_behind name.now form first.now (matrix_ask_of ask.now) (words_of words.entry)) result }
+{
+    let second = second_of(form, words)?;
+    let ask = matrix_ask(ask)?;
+    rule_between(alloc, name, form, first, ask, second)
 }
 
 /// The second layer of a rule, from the words behind what is asked: `some` stands before it in a rule for each.
@@ -96,19 +191,18 @@ fn second_of(form: Form, mut words: Words<'_>) -> Result<&str, Refusal>
     Ok(second)
 }
 
-/// The command of a rule whose words are there, in which what is asked is not read yet.
-fn rule_asked(
+/// The command of a new rule between layers.
+fn rule_between(
     alloc: Global,
     name: &str,
     form: Form,
     first: &str,
-    ask: &str,
+    ask: PairAsk,
     second: &str,
 ) -> Result<Command, Refusal>
-    ensures { OrMemory (rule_asked_of name.now form first.now ask.now second.now) result }
+    ensures { OrMemory (rule_asked_of name.now form first.now (Ok ask) second.now) result }
 {
-    let ask = ask_of(ask)?;
-    Ok(Command::AddRule(Rule {
+    let rule = Rule {
         name: text_of(alloc, name)?,
         says: Says::OfLayers(LayerRule {
             form,
@@ -116,7 +210,8 @@ fn rule_asked(
             ask,
             second: text_of(alloc, second)?,
         }),
-    }))
+    };
+    Ok(Command::AddRule(BoxedRule::new(alloc, rule)?))
 }
 
 fn drop_rule(alloc: Global, mut words: Words<'_>) -> Result<Command, Refusal>
@@ -129,7 +224,7 @@ fn drop_rule(alloc: Global, mut words: Words<'_>) -> Result<Command, Refusal>
 
 /// The command of the words after `rules`.
 pub(crate) fn rules_arguments(words: Words<'_>) -> Result<Command, Refusal>
-    ensures { result ≡ alone Rules (words_of words.entry) }
+    ensures { result ≡ alone_of Rules (words_of words.entry) }
 {
     words.finish()?;
     Ok(Command::Rules)

@@ -1,12 +1,8 @@
 -- The answers to `get` and `find`.
-use Rattle.std.proofs.Common.{◌≡◌, ◌∙◌, ℕ, zero, suc, ◌+◌, ◌<◌, ◌≤◌, Bool, true, false, cond, filter, List, [], ◌∷◌, ◌++◌, length, flat_map, take, get_or, slice_get, codes, decimal, Option, None, Some, is_some, option_map, option_and_then, IsSomeAnd, refl, sym, ap, subst, arith, append_assoc, append-nil}
+use Rattle.std.proofs.Common.{◌≡◌, ◌∙◌, ℕ, zero, suc, ◌+◌, ◌<◌, ◌≤◌, Bool, true, false, cond, filter, List, [], ◌∷◌, ◌++◌, length, flat_map, take, get_or, slice_get, codes, decimal, Option, None, Some, option_map, option_and_then, IsSomeAnd, refl, sym, ap, subst, arith, append_assoc, append-nil}
 use Rattle.std.specs.Map.{keys_of}
 use Rattle.std.proofs.lemmas.List.{map-append, take_all}
 use Rattle.std.proofs.lemmas.List.Elements.{filter-append}
-use Rattle.sf_features.specs.declared.column.Column.{Column}
-use Rattle.sf_layers.specs.Content.{LayerContent, column_named, column_place}
-use Rattle.sf_layers.proofs.Columns.{column_at_place}
-use Rattle.sf_steps.proofs.Passes.{there_from_test}
 use Rattle.sf_commands.specs.Commands.{each}
 use Rattle.sf_console.specs.Answers.{line, rows}
 use Rattle.sf_console.proofs.RowLemmas.{flat-push, take-at}
@@ -104,11 +100,3 @@ module _ {X : Type 0} (test : X → Bool) (found : List (ℕ × X)) (id : ℕ) (
   found-same fails =
       found-parts ∙ ap (λ b. keys_of (filter (λ entry. test entry.1) found) ++ keys_of (cond b ((id, x) ∷ []) [])) fails
       ∙ append-nil (keys_of (filter (λ entry. test entry.1) found))
-
--- ---- the column of a name
-
-pub column-at : (layer : LayerContent) (name : List ℕ) (place : ℕ) (o : Option Column) → place ≡ column_place layer name → true ≡ is_some (column_named layer name)
-    → o ≡ slice_get layer.columns place → o ≡ column_named layer name
-column-at layer name place o at there is =
-    let found = there_from_test (column_named layer name) (sym there) in
-    is ∙ ap (slice_get layer.columns) at ∙ column_at_place layer name found.0 found.1 ∙ sym found.1

@@ -1,6 +1,10 @@
 -- Rows put one behind another.
-use Rattle.std.proofs.Common.{◌≡◌, ℕ, zero, suc, ◌+◌, List, [], ◌∷◌, ◌++◌, Some, flat_map, map, slice_get, take, refl, sym, ap, ◌∙◌, arith, append_assoc}
+use Rattle.std.proofs.Common.{◌≡◌, ℕ, zero, suc, ◌+◌, ◌<◌, List, [], ◌∷◌, ◌++◌, Some, codes, drop, flat_map, get_or, length, map, slice_get, take, refl, sym, ap, ◌∙◌, arith, append_assoc}
+use Rattle.std.proofs.lemmas.List.{drop_more}
+use Rattle.sf_features.specs.declared.attr_value.AttrValue.{AttrValue}
+use Rattle.sf_values.specs.Values.{value_text}
 use Rattle.sf_console.specs.Answers.{line}
+use Rattle.sf_console.specs.RuleRows.{list_words}
 
 -- one more element
 pub take-at : {X : Type 0} (xs : List X) (i : ℕ) (x : X) → slice_get xs i ≡ Some x → take (i + 1) xs ≡ take i xs ++ x ∷ []
@@ -37,3 +41,13 @@ rows-more row head before after xs i x at was is =
 -- four pieces pushed one after another
 pub four : (t a b c d : List ℕ) → (((t ++ a) ++ b) ++ c) ++ d ≡ t ++ (((a ++ b) ++ c) ++ d)
 four t a b c d = ap (λ x. (x ++ c) ++ d) (append_assoc t a b) ∙ ap (λ x. x ++ d) (append_assoc t (a ++ b) c) ∙ append_assoc t ((a ++ b) ++ c) d
+
+-- one more value of a list behind those so far, with what stands before it
+pub values-more : (values : List AttrValue) (i : ℕ) (value : AttrValue) (before so_far text after whole : List ℕ) → i < length values → value ≡ get_or values i value
+    → so_far ++ list_words before (drop i values) ≡ whole → text ≡ so_far ++ before → after ≡ text ++ value_text value → after ++ list_words (codes ", ") (drop (i + 1) values) ≡ whole
+values-more values i value before so_far text after whole within at left first second =
+    let more = list_words (codes ", ") (drop (i + 1) values) in
+    let rest : drop i values ≡ value ∷ drop (i + 1) values = drop_more values i value within ∙ ap (λ v. v ∷ drop (i + 1) values) (sym at) in
+    ap (λ t. t ++ more) (second ∙ ap (λ t. t ++ value_text value) first)
+    ∙ append_assoc (so_far ++ before) (value_text value) more ∙ append_assoc so_far before (value_text value ++ more)
+    ∙ ap (λ vs. so_far ++ list_words before vs) (sym rest) ∙ left

@@ -19,8 +19,8 @@ use Rattle.sf_history.specs.Recorded.{Broken}
 use Rattle.sf_history.specs.Recorded.{Rule}
 use Rattle.sf_history.specs.Recorded.{break_of, broken_or, first_broken}
 use Rattle.sf_history.specs.Recorded.{StepRefusal}
-use Rattle.sf_history.specs.Recorded.refusals.{BadName, NoColumn, NoLayer, RuleExists, TooManyRules}
-use Rattle.sf_history.specs.Recorded.{Ruled, added, after_change, edit_led, group_led, has_layers_of, has_named, has_rule, place_of_rule, rules_after, rules_max, settled, unless_broken, why_missing, with_rule, without_rule}
+use Rattle.sf_history.specs.Recorded.refusals.{BadName, NoColumn, WrongValue, NoLayer, RuleExists, TooManyRules}
+use Rattle.sf_history.specs.Recorded.{Ruled, added, after_change, edit_led, group_led, has_columns_of, has_layers_of, has_named, has_rule, place_of_rule, rules_after, rules_max, settled, unless_broken, why_missing, with_rule, without_rule}
 use Rattle.sf_history.specs.History.{Kept, Machine, after_step, answering, back_to, forth_to, fresh, giving, identifying, ruled_now}
 use Rattle.sf_commands.specs.declared.command.Command.{Command}
 use Rattle.sf_commands.specs.declared.command.Command.TheVariants as commands
@@ -93,9 +93,10 @@ after_rule machine editor rule fine =
     checked_fine machine editor (not (is_name rule.name)) BadName _ fine
     (checked_fine machine editor (has_rule rule.name machine.rules) RuleExists _ fine
     (checked_fine machine editor (not (has_layers_of machine.now rule)) NoLayer _ fine
-    (checked_fine machine editor (not (has_named machine.now rule)) NoColumn _ fine
+    (checked_fine machine editor (not (has_columns_of machine.now rule)) NoColumn _ fine
+    (checked_fine machine editor (not (has_named machine.now rule)) WrongValue _ fine
     (checked_fine machine editor (not (nat_lt (length machine.rules) rules_max)) TooManyRules _ fine
-    (by (broken_or (length machine.rules) (break_of machine.now rule) None))))))
+    (by (broken_or (length machine.rules) (break_of machine.now rule) None)))))))
   where
     by : (broken : Option Broken) → AreWellFormed (machine_after machine (after_step editor machine (unless_broken (with_rule (ruled_now machine) rule) broken)))
     by None = record { now = fine.now; past = (fine.now, fine.past); future = tt }

@@ -6,7 +6,7 @@ ghost use Rattle.sf_text_lines.specs.Lines.{HasNoFeed};
 ghost use Rattle.sf_text_lines.specs.Buffers.{IsBufferOf};
 ghost use Rattle.sf_commands.specs.Commands.{command_of, takes_memory};
 ghost use Rattle.sf_commands.specs.GroupTexts.{group_of};
-ghost use Rattle.sf_console.specs.Answers.{reply_text, refusal_line, rows, rows_of, layer_row, column_rows as column_rows_of, feature_rows as feature_rows_of, found, found_by, got, told, hex_text, measured as measured_of, simple_text, box_text, distant_text, related_text, near_rows, found_rows};
+ghost use Rattle.sf_console.specs.Answers.{reply_text, refusal_line, rows, rows_of, layer_row, column_rows as column_rows_of, column_spot as column_spot_of, feature_rows as feature_rows_of, found, found_by, got, told, hex_text, measured as measured_of, simple_text, box_text, distant_text, related_text, near_rows, found_rows};
 ghost use Rattle.sf_history.specs.History.{Machine};
 ghost use Rattle.sf_console.specs.Readings.{Asked, line_text, reading_of, text_reading};
 ghost use Rattle.sf_console.specs.Requests.{Ends, Gathering, Request, gathered};
@@ -14,7 +14,7 @@ ghost use Rattle.sf_console.specs.Gatherings.{Asks, IsHeld, IsLastAnswered, IsTa
 ghost use Rattle.sf_console.specs.Session.{IsAnswered};
 
 use super::checking::checked;
-use super::finding::{column_of, ids_with, may_be_sought};
+use super::finding::{ids_with, may_be_sought};
 use super::group_lines::{GroupLines, LineAsks};
 use super::grouping::{answer_cut, answer_group};
 use super::joining::joined;
@@ -23,10 +23,10 @@ use super::reaching::{reach, reach_until};
 use super::reply::{Reply, distance_line, hex_line};
 use super::rows::{column_rows, feature_rows, id_rows, layer_rows, measured_rows, rows_under};
 use super::rules::{add_rule, drop_rule, refused_by_rules, rules};
-use sf_commands::{Command, Identifiers, is_blank_text, parse, parse_group};
+use sf_commands::{Command, Identifiers, Sought, is_blank_text, parse, parse_group};
 use sf_distance::Reach;
 use sf_history::Editor;
-use sf_layers::{AttrValue, Store, Text};
+use sf_layers::{Store, Text};
 use sf_measure::Measure;
 use sf_near::{distance_to, features_within};
 use sf_query::{Ask, query, relate_one};
@@ -214,7 +214,7 @@ fn execute_any(
 {
     match command {
         Command::Edit(edit) => carry_out_edit(alloc, editor, asker, edit),
-        Command::AddRule(rule) => add_rule(alloc, editor, asker, rule),
+        Command::AddRule(rule) => add_rule(alloc, editor, asker, rule.into_rule()),
         Command::DropRule(name) => drop_rule(alloc, editor, asker, &name),
         Command::Undo => {
             editor.undo_as(alloc, asker)?;
@@ -261,12 +261,7 @@ fn execute_any(
             features(alloc, editor.store(), &layer, &ask, &given)
         }
         Command::Near(layer, reach, given) => near(alloc, editor.store(), &layer, reach, &given),
-        Command::JoinMatching(first, pattern, second, id) => {
-            let ask = Ask::Matching(pattern);
-            joined(alloc, editor.store(), &first, &ask, &second, id)
-        }
-        Command::JoinNamed(first, predicate, second, id) => {
-            let ask = Ask::Named(predicate);
+        Command::Join(first, ask, second, id) => {
             joined(alloc, editor.store(), &first, &ask, &second, id)
         }
     }
@@ -338,7 +333,7 @@ fn find_by_index(
     editor: &mut Editor,
     name: &Text,
     column: &Text,
-    sought: &Option<AttrValue>,
+    sought: &Sought,
 ) -> Result<Reply, Refusal>
     ensures answered { (reply_text result ≡ found_by (layer_of editor.old.now name.now) column.now sought.now) ⊎ (reply_text result ≡ refusal_line Refusal.Memory) }
     ensures unchanged { editor.new ≡ editor.old }
@@ -347,17 +342,11 @@ fn find_by_index(
     find(alloc, editor.store(), name, column, sought)
 }
 
-/// Makes the index of the column in which a value is sought, where there is none.
-fn index_sought(
-    alloc: Global,
-    editor: &mut Editor,
-    name: &Text,
-    column: &Text,
-    sought: &Option<AttrValue>,
-)
+/// Makes the index of the column in which a value or a range is sought, where there is none.
+fn index_sought(alloc: Global, editor: &mut Editor, name: &Text, column: &Text, sought: &Sought)
     ensures { editor.new ≡ editor.old }
 {
-    if sought.is_none() {
+    if let Sought::Any = sought {
         return;
     }
     let Some((place, number)) = column_spot(editor.store(), name, column) else {
@@ -367,24 +356,26 @@ fn index_sought(
 }
 
 /// The place of the layer of a name, and the number of its column of a name, where both are there.
-fn column_spot(store: &Store, name: &Text, column: &Text) -> Option<(usize, u16)> {
+fn column_spot(store: &Store, name: &Text, column: &Text) -> Option<(usize, u16)>
+    ensures { result ≡ column_spot_of store.now name.now column.now }
+{
     let place = store.place(name.as_str())?;
     let layer = store.layer(name.as_str())?;
-    Some((place, column_of(layer, column.as_str())?.number))
+    Some((place, layer.column(column.as_str())?.number))
 }
 
-/// The identifiers of the features with a value in the column of that name: this one, where one is given.
+/// The identifiers of the features with a value that is sought in the column of that name.
 fn find(
     alloc: Global,
     store: &Store,
     name: &Text,
     column: &Text,
-    sought: &Option<AttrValue>,
+    sought: &Sought,
 ) -> Result<Reply, Refusal>
     ensures { (reply_text result ≡ found_by (layer_of store.now name.now) column.now sought.now) ⊎ (reply_text result ≡ refusal_line Refusal.Memory) }
 {
     let layer = store.layer(name.as_str()).ok_or(Refusal::NoLayer)?;
-    let column = column_of(layer, column.as_str()).ok_or(Refusal::NoColumn)?;
+    let column = layer.column(column.as_str()).ok_or(Refusal::NoColumn)?;
     if !may_be_sought(column.column_type, sought) {
         return Err(Refusal::WrongValue);
     }

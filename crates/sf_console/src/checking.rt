@@ -3,7 +3,6 @@ ghost use Rattle.std.specs.Prelude.{◌≡◌, ◌⊎◌, ◌++◌, [], None, So
 ghost use Rattle.std.specs.Option.{option_map_or};
 ghost use Rattle.sf_layers.specs.WellFormed.{id_end};
 ghost use Rattle.sf_valid_rules.specs.Faults.{refusal_of as refusal_of_fault};
-ghost use Rattle.sf_steps.specs.declared.edit.Edit.{Edit};
 ghost use Rattle.sf_steps.specs.declared.edit.Edit.TheVariants.{AddFeature};
 ghost use Rattle.sf_steps.specs.Steps.{checks, first_refusal};
 ghost use Rattle.sf_console.specs.Answers.{line as line_of, refusal_line, reply_text};

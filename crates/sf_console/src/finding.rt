@@ -1,26 +1,34 @@
 //! Features by a value in a column.
-ghost use Rattle.std.specs.Prelude.{◌≡◌, IfOk, option_copied};
-ghost use Rattle.sf_layers.specs.Content.{column_named};
-ghost use Rattle.sf_console.specs.Answers.{ids_with as ids_with_of, may_be_sought as may_be_sought_of};
+ghost use Rattle.std.specs.Prelude.{◌≡◌, ◌&&◌, IfOk};
+ghost use Rattle.sf_console.specs.Answers.{ids_with as ids_with_of, may_be_end as may_be_end_of, may_be_sought as may_be_sought_of};
 
-use sf_layers::{AttrValue, Column, ColumnType, Layer};
+use sf_commands::Sought;
+use sf_layers::{AttrValue, ColumnType, Layer, ValueRange};
 use std::alloc::{AllocError, Global};
 
-/// The column of a name, or None where the layer has none.
-pub(crate) fn column_of<'a>(layer: &'a Layer, name: &str) -> Option<&'a Column>
-    ensures { option_copied result ≡ column_named layer.now name.now }
-{
-    match layer.column_place(name) {
-        Some(place) => layer.column_at(place),
-        None => None,
-    }
-}
-
-/// Whether a value that is sought may stand in a column of the type; where none is given there is nothing to ask.
-pub(crate) fn may_be_sought(column_type: ColumnType, sought: &Option<AttrValue>) -> bool
+/// Whether this may be sought in a column of the type: of that type are the value, and the ends of the range.
+pub(crate) fn may_be_sought(column_type: ColumnType, sought: &Sought) -> bool
     ensures { result ≡ may_be_sought_of column_type sought.now }
 {
     match sought {
+        Sought::Any => true,
+        Sought::Value(wanted) => wanted.is_of_type(column_type),
+        Sought::Between(range) => may_be_ends(column_type, range.range()),
+    }
+}
+
+/// Whether the ends of a range are of the type.
+fn may_be_ends(column_type: ColumnType, range: &ValueRange) -> bool
+    ensures { result ≡ (may_be_end_of column_type range.now.from && may_be_end_of column_type range.now.to) }
+{
+    may_be_end(column_type, &range.from) && may_be_end(column_type, &range.to)
+}
+
+/// Whether the end of a range is of the type, where one is given.
+fn may_be_end(column_type: ColumnType, end: &Option<AttrValue>) -> bool
+    ensures { result ≡ may_be_end_of column_type end.now }
+{
+    match end {
         Some(value) => value.is_of_type(column_type),
         None => true,
     }
@@ -32,12 +40,16 @@ pub(crate) fn ids_with(
     alloc: Global,
     layer: &Layer,
     number: u16,
-    sought: &Option<AttrValue>,
+    sought: &Sought,
 ) -> Result<Vec<u32>, AllocError>
     ensures { IfOk result (λ ids. ids.items ≡ ids_with_of number sought.now layer.now) }
 {
     match sought {
-        Some(value) => layer.ids_with_value(alloc, number, value),
-        None => layer.ids_between(alloc, number, &None, &None),
+        Sought::Any => layer.ids_between(alloc, number, &None, &None),
+        Sought::Value(wanted) => layer.ids_with_value(alloc, number, wanted),
+        Sought::Between(range) => {
+            let range = range.range();
+            layer.ids_between(alloc, number, &range.from, &range.to)
+        }
     }
 }

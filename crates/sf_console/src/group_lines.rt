@@ -5,7 +5,7 @@ ghost use Rattle.sf_text_lines.specs.Lines.{HasNoFeed, line_max};
 ghost use Rattle.sf_commands.specs.GroupTexts.{group_of, is_return};
 ghost use Rattle.std.specs.List.{list_any};
 ghost use Rattle.std.specs.Str.{is_utf8};
-ghost use Rattle.sf_console.specs.Requests.{Closed, Comes, Gathering, Open, gathered, gathered_on, is_member_text, is_passed_over as is_passed_over_of, line_head, member_text as member_text_of, with_member};
+ghost use Rattle.sf_console.specs.Requests.{Closed, Comes, Gathering, Open, gathered, gathered_on, is_passed_over as is_passed_over_of, line_head, member_text as member_text_of, with_member};
 ghost use Rattle.sf_console.specs.Gatherings.{Asks, IsGrown, IsHeld, IsOpen, IsUnfed, stands_alone as stands_alone_of};
 
 use sf_commands::{Head, are_blanks, begins_as_head, head_of};

@@ -4,7 +4,7 @@ ghost use Rattle.sf_groups.specs.declared.member.Member.{Member as GroupMember};
 ghost use Rattle.sf_commands.specs.declared.group_text.GroupRefusal.{GroupRefusal as GroupRefusalOf};
 ghost use Rattle.sf_commands.specs.GroupTexts.{OrNoMemory, members_of};
 ghost use Rattle.sf_history.specs.History.{grouped};
-ghost use Rattle.sf_console.specs.Answers.{cut_line, group_refusal_line, group_reply, identifiers_line, refusal_line, reply_text};
+ghost use Rattle.sf_console.specs.Answers.{cut_line, group_refusal_line, identifiers_line, refusal_line, reply_text};
 ghost use Rattle.sf_console.specs.Readings.{Grouped};
 ghost use Rattle.sf_console.specs.Session.{IsAnswered};
 

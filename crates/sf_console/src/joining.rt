@@ -7,7 +7,7 @@ use super::reply::Reply;
 use super::rows::{id_rows, pair_rows};
 use sf_joins::{join, join_one};
 use sf_layers::{Store, Text};
-use sf_query::Ask;
+use sf_near::PairAsk;
 use sf_refusals::Refusal;
 use std::alloc::Global;
 
@@ -16,7 +16,7 @@ pub(crate) fn joined(
     alloc: Global,
     store: &Store,
     first: &Text,
-    ask: &Ask,
+    ask: &PairAsk,
     second: &Text,
     id: Option<u32>,
 ) -> Result<Reply, Refusal>
@@ -33,7 +33,7 @@ fn pairs(
     alloc: Global,
     store: &Store,
     first: &Text,
-    ask: &Ask,
+    ask: &PairAsk,
     second: &Text,
 ) -> Result<Reply, Refusal>
     ensures { (reply_text result ≡ pairs_told (bytes_eq first.now second.now) (layer_of store.now first.now) ask.now (layer_of store.now second.now)) ⊎ (reply_text result ≡ refusal_line Refusal.Memory) }
@@ -47,7 +47,7 @@ fn beside(
     alloc: Global,
     store: &Store,
     first: &Text,
-    ask: &Ask,
+    ask: &PairAsk,
     second: &Text,
     id: u32,
 ) -> Result<Reply, Refusal>

@@ -1,21 +1,24 @@
 //! Rules added, dropped and listed, and the answers to steps that would break one.
-ghost use Rattle.std.specs.Prelude.{◌≡◌, ◌++◌, ◌⊎◌, false, map, string_bytes, IfOk, Ok, OnOk};
+ghost use Rattle.std.specs.Prelude.{◌≡◌, ◌++◌, ◌⊎◌, codes, false, map, string_bytes, IfOk, Ok, OnOk};
 ghost use Rattle.sf_known.specs.Patterns.{pattern_text};
 ghost use Rattle.sf_commands.specs.declared.command.Command.TheVariants as commands;
 ghost use Rattle.sf_console.specs.Answers.{IsSaidAlways, broken_line as broken_line_of, line, refusal_line, reply_text, rows, step_refusal_line};
 ghost use Rattle.sf_console.specs.Readings.{Asked};
-ghost use Rattle.sf_console.specs.RuleRows.{ask_word, between_words, break_words, broken_name as broken_name_of, demand_words as demand_words_of, form_words as form_words_of, front_words, rule_name as rule_name_of, rule_row, said_words, second_words as second_words_of, values_words};
+ghost use Rattle.sf_console.specs.RuleRows.{ask_word, pair_ask_words, between_words, break_words, broken_name as broken_name_of, demand_words as demand_words_of, form_words as form_words_of, from_words, front_words, list_words, named_words, rule_name as rule_name_of, rule_row, said_words, second_words as second_words_of, to_words, values_words};
 ghost use Rattle.sf_console.specs.Session.{IsAnswered};
 
 use super::reply::Reply;
+use sf_distance::writing::push_reach;
 use sf_history::{
     Break, Demand, Editor, Form, LayerRule, Rule, Rules, Says, StepRefusal, ValueRule,
 };
 use sf_known::Letter;
-use sf_layers::Text;
+use sf_layers::{AttrValue, Text, ValueRange};
+use sf_near::PairAsk;
 use sf_query::Ask;
 use sf_refusals::Refusal;
 use sf_steps::Answer;
+use sf_values::push_value;
 use std::alloc::{AllocError, Global};
 
 /// Adds a rule, as a step of the editor of that number.
@@ -105,10 +108,11 @@ pub fn refused_step(alloc: Global, name: &str, refusal: StepRefusal) -> Result<R
         StepRefusal::NoRule => Err(Refusal::NoRule),
         StepRefusal::RuleExists => Err(Refusal::RuleExists),
         StepRefusal::LayerRuled => Err(Refusal::LayerRuled),
-        StepRefusal::ColumnRuled => Err(Refusal::LayerRuled),
+        StepRefusal::ColumnRuled => Err(Refusal::ColumnRuled),
         StepRefusal::BadName => Err(Refusal::BadName),
         StepRefusal::NoLayer => Err(Refusal::NoLayer),
         StepRefusal::NoColumn => Err(Refusal::NoColumn),
+        StepRefusal::WrongValue => Err(Refusal::WrongValue),
         StepRefusal::TooManyRules => Err(Refusal::IdsExhausted),
         StepRefusal::Memory => Err(Refusal::Memory),
     }
@@ -176,7 +180,7 @@ fn push_between(text: &mut String, rule: &LayerRule) -> Result<(), AllocError>
     ensures { OnOk result (string_bytes text.new ≡ string_bytes text.old ++ between_words rule.now) }
 {
     push_front(text, rule)?;
-    push_ask(text, &rule.ask)?;
+    push_pair_ask(text, &rule.ask)?;
     text.push_str(second_words(rule.form))?;
     text.push_str(rule.second.as_str())
 }
@@ -194,23 +198,99 @@ fn push_front(text: &mut String, rule: &LayerRule) -> Result<(), AllocError>
 fn push_values(text: &mut String, rule: &ValueRule) -> Result<(), AllocError>
     ensures { OnOk result (string_bytes text.new ≡ string_bytes text.old ++ values_words rule.now) }
 {
-    text.push_str(demand_words(rule.demand))?;
+    text.push_str(demand_words(&rule.demand))?;
     text.push_str(rule.layer.as_str())?;
     text.push(' ')?;
-    text.push_str(rule.column.as_str())
+    text.push_str(rule.column.as_str())?;
+    push_named(text, &rule.demand)
 }
 
 /// The word of a demand, with the blanks around it.
-fn demand_words(demand: Demand) -> &'static str
-    ensures { result.now ≡ demand_words_of demand }
+fn demand_words(demand: &Demand) -> &'static str
+    ensures { result.now ≡ demand_words_of demand.now }
 {
     match demand {
         Demand::Unique => " unique ",
         Demand::Required => " required ",
+        Demand::OneOf(_) => " one-of ",
+        Demand::InRange(_) => " range ",
     }
 }
 
-/// What is asked, as one word.
+/// The values that a demand names, as they stand behind the column.
+fn push_named(text: &mut String, demand: &Demand) -> Result<(), AllocError>
+    ensures { OnOk result (string_bytes text.new ≡ string_bytes text.old ++ named_words demand.now) }
+{
+    match demand {
+        Demand::Unique | Demand::Required => Ok(()),
+        Demand::OneOf(allowed) => push_list(text, allowed.as_slice()),
+        Demand::InRange(range) => push_range(text, range),
+    }
+}
+
+/// The values of a list, a blank before the first of them and a comma before each other.
+fn push_list(text: &mut String, values: &[AttrValue]) -> Result<(), AllocError>
+    ensures { OnOk result (string_bytes text.new ≡ string_bytes text.old ++ list_words (codes " ") values.now) }
+{
+    let mut before = " ";
+    for value in values {
+        text.push_str(before)?;
+        push_value(text, value)?;
+        before = ", ";
+    }
+    Ok(())
+}
+
+/// The ends of a range, where they are given, around `to`.
+fn push_range(text: &mut String, range: &ValueRange) -> Result<(), AllocError>
+    ensures { OnOk result (string_bytes text.new ≡ string_bytes text.old ++ (codes " " ++ (from_words range.now.from ++ (codes "to" ++ to_words range.now.to)))) }
+{
+    text.push(' ')?;
+    push_from(text, &range.from)?;
+    text.push_str("to")?;
+    push_to(text, &range.to)
+}
+
+/// The first end of a range, as it stands before `to`.
+fn push_from(text: &mut String, from: &Option<AttrValue>) -> Result<(), AllocError>
+    ensures { OnOk result (string_bytes text.new ≡ string_bytes text.old ++ from_words from.now) }
+{
+    match from {
+        Some(value) => {
+            push_value(text, value)?;
+            text.push(' ')
+        }
+        None => Ok(()),
+    }
+}
+
+/// The last end of a range, as it stands behind `to`.
+fn push_to(text: &mut String, to: &Option<AttrValue>) -> Result<(), AllocError>
+    ensures { OnOk result (string_bytes text.new ≡ string_bytes text.old ++ to_words to.now) }
+{
+    match to {
+        Some(value) => {
+            text.push(' ')?;
+            push_value(text, value)
+        }
+        None => Ok(()),
+    }
+}
+
+/// What is asked of two features: a word, or `near` and a distance.
+fn push_pair_ask(text: &mut String, ask: &PairAsk) -> Result<(), AllocError>
+    ensures { OnOk result (string_bytes text.new ≡ string_bytes text.old ++ pair_ask_words ask.now) }
+{
+    match ask {
+        PairAsk::Matrix(ask) => push_ask(text, ask),
+        PairAsk::Near(reach) => {
+            text.push_str("near ")?;
+            push_reach(text, *reach)
+        }
+    }
+}
+
+/// What is asked of a matrix, as one word.
 fn push_ask(text: &mut String, ask: &Ask) -> Result<(), AllocError>
     ensures { OnOk result (string_bytes text.new ≡ string_bytes text.old ++ ask_word ask.now) }
 {

@@ -1,4 +1,4 @@
--- Squares of distances as texts: of fractions that are one number the texts are the same.
+-- Distances and their squares as texts: of fractions that are one number the texts are the same.
 use Rattle.std.specs.Prelude.{ℕ, zero, suc, ◌+◌, ◌*◌, ◌^◌, ◌/◌, ◌%◌, ◌==◌, List, [], ◌++◌, unsigned_abs, codes, decimal, nat_le, if◌then◌else◌}
 use Rattle.sf_grid.specs.Fraction.{Fraction}
 
@@ -21,6 +21,10 @@ thousandths_of_root s = root_of ((unsigned_abs s.num * 1000000) / s.den)
 -- so many thousandths: the whole number, a point, and three digits
 abbrev pub thousandths_text : ℕ → List ℕ
 thousandths_text n = decimal (n / 1000) ++ (codes "." ++ (decimal (n / 100 % 10) ++ (decimal (n / 10 % 10) ++ decimal (n % 10))))
+
+-- a distance that is asked about: whole grid steps as a whole number
+abbrev pub reach_text : ℕ → List ℕ
+reach_text thousandths = if thousandths % 1000 == 0 then decimal (thousandths / 1000) else thousandths_text thousandths
 
 -- the distance whose square is given
 abbrev pub distance_text : Fraction → List ℕ

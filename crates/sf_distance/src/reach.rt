@@ -1,4 +1,4 @@
-ghost use Rattle.std.specs.Prelude.{◌≡◌, None, Some, if◌then◌else◌, nat_lt};
+ghost use Rattle.std.specs.Prelude.{◌≡◌, ◌<◌, None, Some, if◌then◌else◌, nat_lt};
 ghost use Rattle.sf_distance.specs.Mixed.{number_of};
 ghost use Rattle.sf_distance.specs.Reaches.{reach_limit, square_of_reach, steps_of_reach};
 
@@ -37,6 +37,14 @@ impl Reach {
         } else {
             None
         }
+    }
+
+    /// The distance in thousandths of a grid step.
+    pub fn thousandths(&self) -> u64
+        ensures value { result ≡ self.now }
+        ensures few { result < reach_limit }
+    {
+        self.thousandths
     }
 
     /// The square of the distance, in squared grid steps.

@@ -1,10 +1,11 @@
-//! Squares of distances as texts.
+//! Distances, and their squares, as texts.
 
 ghost use Rattle.std.specs.Prelude.{◌≡◌, ◌≤◌, ◌++◌, string_bytes, OnOk};
 ghost use Rattle.std.specs.Int.{IsGcd};
 ghost use Rattle.sf_distance.specs.Mixed.{number_of};
-ghost use Rattle.sf_distance.specs.Texts.{distance_text, square_text, terms_text, thousandths_text};
+ghost use Rattle.sf_distance.specs.Texts.{distance_text, reach_text, square_text, terms_text, thousandths_text};
 
+use crate::reach::Reach;
 use crate::square::Square;
 use std::alloc::AllocError;
 
@@ -31,6 +32,22 @@ pub fn push_square(text: &mut String, square: &Square) -> Result<(), AllocError>
     let den = square.denominator();
     let divisor = common_divisor(num, den);
     push_terms(text, num / divisor, den / divisor)
+}
+
+/// Puts a distance that is asked about behind a text, in grid steps: a whole number, or one with three digits behind the point.
+///
+/// # Errors
+///
+/// Out of memory. A front of it may then stand there.
+pub fn push_reach(text: &mut String, reach: Reach) -> Result<(), AllocError>
+    ensures { OnOk result (string_bytes text.new ≡ string_bytes text.old ++ reach_text reach) }
+{
+    let thousandths = reach.thousandths();
+    if thousandths % 1000 == 0 {
+        write!(text, "{}", thousandths / 1000)
+    } else {
+        push_thousandths(text, thousandths)
+    }
 }
 
 /// Puts so many thousandths behind a text.

@@ -92,10 +92,11 @@ fn reindex(alloc: Global, store: &mut Store, place: Option<usize>)
 }
 
 // The place of the layer that an accepted edit named, which may have lost its index. One that is dropped
-// has none, and one that is new has its index.
+// has none, and one that is new has its index. An edit of a value loses none, and is spared the search.
 fn place_after_edit(store: &Store, inverse: &Inverse) -> Option<usize> {
     match inverse {
         Inverse::RenameLayer { place, .. } => Some(*place),
+        Inverse::PutValue { .. } => None,
         _ => store.place(inverse.layer_name()?.as_str()),
     }
 }
@@ -106,6 +107,7 @@ fn place_after_undo(store: &Store, reverted: &Reverted) -> Option<usize> {
         Kept::AddFeature { layer, .. } | Kept::ReplaceGeometry { layer, .. } => {
             store.place(layer.as_str())
         }
+        Kept::Other(Edit::SetValue { .. } | Edit::ClearValue { .. }) => None,
         Kept::Other(edit) => store.place(edit.layer_name().as_str()),
     }
 }

@@ -11,6 +11,9 @@ use std::fs::{File, Files, OpenFile, OpenOptions};
 use std::io;
 use std::io::{ErrorKind, Read, Seek, SeekFrom, Write};
 
+/// The first byte of a journal that is being written anew: no journal begins with it.
+const UNFINISHED: u8 = b'!';
+
 /// What is known of the store's file: no other program is to have changed it when another file takes its place.
 #[derive(Clone, Copy, Debug)]
 pub struct Known {
@@ -122,19 +125,48 @@ impl<'a, R: Files> StoreFolder<'a, R> {
         self.write_journal_anew()
     }
 
-    /// Writes the bytes of the journal that is open to a new one.
+    /// Writes the bytes of the journal that is open to a new one under its name. Until all of them are on the disk it begins as no
+    /// journal does: where the session is ended before, the next opening refuses it, and takes no part for the whole.
     fn write_journal_anew(&mut self) -> io::Result<()> {
+        let bytes = self.journal_bytes()?;
+        let Some((first, rest)) = bytes.as_slice().split_first() else {
+            return Err(not_begun());
+        };
+        let file = made(
+            self.files,
+            self.places.at(Name::Journal),
+            self.places.at(Name::Store),
+        )?;
+        self.keep(Name::Journal, Some(file));
+        self.write(Name::Journal, &[UNFINISHED])?;
+        self.write(Name::Journal, rest)?;
+        self.sync(Name::Journal)?;
+        self.sync_folder()?;
+        self.finish_journal(*first)
+    }
+
+    /// The bytes of the journal that is open, which is so no longer.
+    fn journal_bytes(&mut self) -> io::Result<Vec<u8>> {
         let Some(mut file) = self.take(Name::Journal) else {
             return Err(not_begun());
         };
         file.seek(SeekFrom::Start(0))?;
         let mut bytes = Vec::new(self.alloc);
         file.read_to_end(&mut bytes)?;
-        self.begin(Name::JournalBeside)?;
-        self.write(Name::JournalBeside, bytes.as_slice())?;
-        self.sync(Name::JournalBeside)?;
-        self.rename(Name::JournalBeside, Name::Journal)?;
-        self.sync_folder()
+        Ok(bytes)
+    }
+
+    /// Puts the first byte of a journal in its place, once the others are on the disk. What is appended goes behind them.
+    fn finish_journal(&mut self, first: u8) -> io::Result<()> {
+        let Some(mut file) = self.take(Name::Journal) else {
+            return Err(not_begun());
+        };
+        file.seek(SeekFrom::Start(0))?;
+        file.write_all(&[first])?;
+        file.seek(SeekFrom::End(0))?;
+        file.sync_data()?;
+        self.keep(Name::Journal, Some(file));
+        Ok(())
     }
 
     /// What is seen of the file that stands for a name, of the open file and not by its name.

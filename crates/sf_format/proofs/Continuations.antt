@@ -1,5 +1,5 @@
 -- What follows each field in the definition of its record, under a name that lemmas use.
-use Rattle.std.specs.Prelude.{ℕ, ℤ, List, [], length, nat_lt, nat_le}
+use Rattle.std.specs.Prelude.{ℕ, ℤ, List, [], length, Option, nat_lt, nat_le}
 use Rattle.sf_dates.specs.declared.day.Day.{Day}
 use Rattle.sf_dates.specs.declared.moment.Moment.{Moment}
 use Rattle.sf_decimals.specs.declared.number.Number.{Number}
@@ -10,17 +10,19 @@ use Rattle.sf_features.specs.declared.attr_value.AttrValue.{AttrValue}
 use Rattle.sf_features.specs.Features.{FeatureContent}
 use Rattle.sf_layers.specs.declared.layer_kind.LayerKind.{LayerKind}
 use Rattle.sf_layers.specs.Content.{Content, LayerContent}
-use Rattle.sf_ruled_store.specs.Ruling.{Ask}
+use Rattle.sf_layers.specs.declared.value_range.ValueRange.{ValueRange}
+use Rattle.sf_ruled_store.specs.Ruling.{Matrix, Near, PairAsk}
 use Rattle.sf_ruled_store.specs.Ruling.{Rule, Says, OfLayers, OfValues}
 use Rattle.sf_ruled_store.specs.Ruling.{Form}
-use Rattle.sf_ruled_store.specs.Ruling.{Demand}
 use Rattle.sf_ruled_store.specs.Ruled.{Ruled}
+use Rattle.sf_format.specs.declared.range_ends.RangeEnds.{RangeEnds}
+use Rattle.sf_format.specs.declared.rule_form.DemandForm.{DemandForm}
 use Rattle.sf_format.specs.declared.rule_form.RuleForm.{RuleForm}
 use Rattle.sf_format.specs.declared.version.Version.{Version}
 use Rattle.sf_format.specs.declared.defect.Defect.TheVariants.{NoColumn, WrongValue, WrongKind, IdsExhausted, ColumnsExhausted, BadFile}
 use Rattle.sf_wkb.specs.Grammar.{read_in}
 use Rattle.sf_format.specs.Readings.{Reading, ◌>>=◌, done, bytes, field, number, items, end}
-use Rattle.sf_format.specs.Format.{RowReading, allowed, present, name, type_of_byte, kind_of_byte, fresh_column_name, column, admitted, typed_value, value, geometry, feature, layers, form_of_byte, known_column_name, known_layer_name, ask, said, grid_of, rules_in}
+use Rattle.sf_format.specs.Format.{RowReading, allowed, present, name, type_of_byte, kind_of_byte, fresh_column_name, column, admitted, typed_value, value, geometry, feature, layers, demanded, end_value, form_of_byte, known_column, known_layer_name, named_value, ask, distance, said, grid_of, rules_in}
 
 -- ---- a column
 
@@ -120,7 +122,7 @@ layer_after_name row title = do
 
 -- ---- a rule
 
-abbrev pub said_after_ask : Content → Form → List ℕ → Ask → Reading Says
+abbrev pub said_after_ask : Content → Form → List ℕ → PairAsk → Reading Says
 said_after_ask content form first asked = do
   second ← field name (known_layer_name content)
   done (OfLayers (record { form = form; first = first; ask = asked; second = second }))
@@ -128,12 +130,35 @@ said_after_ask content form first asked = do
 abbrev pub said_after_first : Content → Form → List ℕ → Reading Says
 said_after_first content form first = do
   asked ← ask
-  said_after_ask content form first asked
+  said_after_ask content form first (Matrix asked)
 
-abbrev pub said_after_layer : Content → Demand → List ℕ → Reading Says
-said_after_layer content demand layer = do
-  column ← field name (known_column_name content layer)
-  done (OfValues (record { demand = demand; layer = layer; column = column }))
+abbrev pub said_after_near : Content → Form → List ℕ → Reading Says
+said_after_near content form first = do
+  reach ← distance
+  said_after_ask content form first (Near reach)
+
+abbrev pub range_after_from : ColumnType → RangeEnds → Option AttrValue → Reading ValueRange
+range_after_from column_type ends from = do
+  to ← end_value column_type ends.to
+  done (record { from = from; to = to })
+
+abbrev pub range_after_ends : ColumnType → RangeEnds → Reading ValueRange
+range_after_ends column_type ends = do
+  from ← end_value column_type ends.from
+  range_after_from column_type ends from
+
+abbrev pub values_after_count : ColumnType → ℕ → Reading (List AttrValue)
+values_after_count column_type count = items (λ earlier. named_value column_type) count []
+
+abbrev pub said_after_column : DemandForm → List ℕ → List ℕ × ColumnType → Reading Says
+said_after_column form layer column = do
+  demand ← demanded column.1 form
+  done (OfValues (record { demand = demand; layer = layer; column = column.0 }))
+
+abbrev pub said_after_layer : Content → DemandForm → List ℕ → Reading Says
+said_after_layer content form layer = do
+  column ← field name (known_column content layer)
+  said_after_column form layer column
 
 abbrev pub rule_after_form : Content → List ℕ → RuleForm → Reading Rule
 rule_after_form content title form = do

@@ -1,6 +1,6 @@
 -- Where a file is refused for a fault of shape it has a geometry with that fault at the place that is told: what each
 -- reading of the format keeps of the place of what is left, and which faults it finds.
-use Rattle.std.proofs.Common.{◌≡◌, ℕ, zero, suc, ◌+◌, Bool, true, false, cond, ltb, ◌&&◌, not, List, [], ◌∷◌, ◌++◌, length, take, drop, Option, None, Some, Result, Ok, Err, IfErr, IfOk, codes, option_map, refl, sym, ap, subst, ◌∙◌, bytes_eq, nat_eq}
+use Rattle.std.proofs.Common.{nat_lt, ◌≡◌, ℕ, zero, suc, ◌+◌, Bool, true, false, cond, ltb, ◌&&◌, not, List, [], ◌∷◌, ◌++◌, length, take, drop, Option, None, Some, Result, Ok, Err, IfErr, IfOk, codes, option_map, refl, sym, ap, subst, ◌∙◌, bytes_eq, nat_eq}
 use Rattle.std.specs.Prelude.{is_some, nat_lt, nat_le}
 use Rattle.std.specs.Int.{w64, cast_signed}
 use Rattle.std.proofs.lemmas.List.{drop-drop}
@@ -18,10 +18,12 @@ use Rattle.sf_wkb.specs.declared.fault.WkbFault.TheVariants as binaries
 use Rattle.sf_wkb.specs.Grammar.{read_in}
 use Rattle.sf_wkb.proofs.Sized.{read_is_sized}
 use Rattle.sf_known.specs.Patterns.{pattern_of}
-use Rattle.sf_ruled_store.specs.Ruling.{Matching, Named}
+use Rattle.sf_ruled_store.specs.Ruling.{Form, Matching, Matrix, Named, Near, PairAsk}
+use Rattle.sf_distance.specs.Reaches.{reach_limit}
 use Rattle.sf_ruled_store.specs.Ruling.{Rule, Says, OfLayers, OfValues}
+use Rattle.sf_ruled_store.specs.Ruling.{Demand, InRange, OneOf, Required, Unique}
 use Rattle.sf_ruled_store.specs.Ruling.{break_of}
-use Rattle.sf_ruled_store.specs.Ruled.{Ruled, has_column_in, has_rule}
+use Rattle.sf_ruled_store.specs.Ruled.{Ruled, has_rule}
 use Rattle.sf_features.specs.declared.column.Column.{Column}
 use Rattle.sf_features.specs.declared.column_type.ColumnType.{ColumnType}
 use Rattle.sf_features.specs.declared.column_type.ColumnType.TheVariants as types
@@ -32,22 +34,26 @@ use Rattle.sf_features.specs.Features.{FeatureContent}
 use Rattle.sf_dates.specs.declared.day.Day.{Day}
 use Rattle.sf_dates.specs.declared.moment.Moment.{Moment}
 use Rattle.sf_decimals.specs.declared.number.Number.{Number}
-use Rattle.sf_features.specs.Values.{is_attr_text}
+use Rattle.sf_features.specs.Values.{is_attr_text, is_of_type}
 use Rattle.sf_layers.specs.declared.layer_kind.LayerKind.{LayerKind}
 use Rattle.sf_layers.specs.Content.{Content, LayerContent, admits, has_layer, layer_of}
+use Rattle.sf_layers.specs.Found.{are_apart}
 use Rattle.sf_layers.specs.WellFormed.{layers_max}
+use Rattle.sf_layers.specs.declared.value_range.ValueRange.{ValueRange}
 use Rattle.sf_streams.specs.Streams.{Left}
+use Rattle.sf_format.specs.declared.rule_form.DemandForm.{DemandForm}
+use Rattle.sf_format.specs.declared.rule_form.DemandForm.TheVariants as forms
 use Rattle.sf_format.specs.declared.rule_form.RuleForm.{RuleForm}
-use Rattle.sf_format.specs.declared.rule_form.RuleForm.TheVariants.{Between, OnValues}
+use Rattle.sf_format.specs.declared.rule_form.RuleForm.TheVariants.{Between, ByDistance, OnValues}
 use Rattle.sf_format.specs.declared.version.Version.{Version}
 use Rattle.sf_format.specs.declared.version.Version.TheVariants.{First, Second, Third, Fourth}
 use Rattle.sf_format.specs.declared.defect.Defect.{Defect}
 use Rattle.sf_format.specs.declared.defect.Defect.TheVariants.{Truncated, TooManyVertices, Invalid, LayerExists, BadName, NoColumn, ColumnExists, WrongValue, WrongKind, IdsExhausted, ColumnsExhausted, BadFile, NoLayer, RuleExists, BadPattern, RuleBroken}
 use Rattle.sf_format.specs.Readings.{Reads, Reading, and_then, ◌>>=◌, done, bytes, judged, field, number, sized, items, end}
 use Rattle.sf_format.specs.Laws.{FilesAreJudgedOverThePlane, HasFaultyGeometry}
-use Rattle.sf_format.specs.Format.{RowReading, row_max, allowed, present, last_number, name, kind_of_byte, type_of_byte, fresh_number, fresh_column_name, column, without_fault, admitted, geometry, signed_number, decimal_parts, decimal_in, bool_of_byte, date_parts, day_in, moment_parts, moment_in, typed_value, next_column_of, value, next_of, feature, fresh_layer_name, layer, layers, ask, asked_by, form_of_byte, fresh_rule_name, held_rule, known_column_name, known_layer_name, predicate_of_byte, rule, rules_in, said, unbroken, head, version_of, on_grid, grid_of, value_of, rules}
+use Rattle.sf_format.specs.Format.{RowReading, row_max, allowed, allowed_range, allowed_values, any_value, demanded, distance, end_value, ends_of_byte, fraction_in, named_value, own_value, present, range_parts, type_in, values_max, last_number, name, kind_of_byte, type_of_byte, fresh_number, fresh_column_name, column, without_fault, admitted, geometry, signed_number, decimal_parts, decimal_in, bool_of_byte, date_parts, day_in, moment_parts, moment_in, typed_value, next_column_of, value, next_of, feature, fresh_layer_name, layer, layers, ask, asked_by, form_of_byte, fresh_rule_name, held_rule, known_column, known_layer_name, predicate_of_byte, rule, rules_in, said, unbroken, head, version_of, on_grid, grid_of, value_of, rules}
 use Rattle.sf_format.proofs.Again.{at}
-use Rattle.sf_format.proofs.Continuations.{decimal_after_mantissa, date_after_month, date_after_year, moment_after_date, column_after_type, column_after_number, value_after_column, geometry_after_size, feature_after_count, feature_after_geometry, feature_after_id, layer_after_feature_count, layer_after_columns, layer_after_column_count, layer_after_next_column, layer_after_next_id, layer_after_kind, layer_after_name, rule_after_form, rule_after_name, said_after_ask, said_after_first, said_after_layer, file_after_head, file_after_layers, file_after_rules}
+use Rattle.sf_format.proofs.Continuations.{decimal_after_mantissa, date_after_month, date_after_year, moment_after_date, column_after_type, column_after_number, value_after_column, geometry_after_size, feature_after_count, feature_after_geometry, feature_after_id, layer_after_feature_count, layer_after_columns, layer_after_column_count, layer_after_next_column, layer_after_next_id, layer_after_kind, layer_after_name, range_after_ends, range_after_from, rule_after_form, rule_after_name, said_after_ask, said_after_column, said_after_first, said_after_near, said_after_layer, values_after_count, file_after_head, file_after_layers, file_after_rules}
 use Rattle.sf_format.proofs.Loaded.{GivesSized}
 
 -- what is left of a text is what stands behind its place
@@ -179,16 +185,18 @@ Finds-date row text = Finds-then row text (number 2) date_after_year (Finds-numb
     (λ month. Finds-then row text (number 1) (λ day. done (record { year = year; month = month; day = day })) (Finds-number row text 1)
     (λ day. Finds-done {T = Day} row text (record { year = year; month = month; day = day }))))
 
+Finds-decimal : (row : RowReading) (text : List ℕ) → Finds row text decimal_parts
+Finds-decimal row text = Finds-then row text signed_number decimal_after_mantissa
+    (Finds-then row text (number 8) (λ n. done (cast_signed w64 n)) (Finds-number row text 8) (λ n. Finds-done row text (cast_signed w64 n)))
+    (λ m. Finds-then row text (number 1) (λ places. done (record { mantissa = m; places = places })) (Finds-number row text 1)
+    (λ places. Finds-done {T = Number} row text (record { mantissa = m; places = places })))
+
 Finds-typed : (row : RowReading) (text : List ℕ) (t : ColumnType) → Finds row text (typed_value t)
 Finds-typed row text types.Int = Finds-then row text (number 8) (λ n. done (values.Int (cast_signed w64 n))) (Finds-number row text 8) (λ n. Finds-done row text (values.Int (cast_signed w64 n)))
 Finds-typed row text types.Text = Finds-field row text _ _
     (Finds-then row text (number 2) bytes (Finds-number row text 2) (λ size. Finds-bytes row text size))
     (λ word. allowed_other (is_attr_text word) WrongValue (values.Text word) wrong_value)
-Finds-typed row text types.Decimal = Finds-field row text decimal_parts (λ parts. present (decimal_in parts) WrongValue)
-    (Finds-then row text signed_number decimal_after_mantissa
-    (Finds-then row text (number 8) (λ n. done (cast_signed w64 n)) (Finds-number row text 8) (λ n. Finds-done row text (cast_signed w64 n)))
-    (λ m. Finds-then row text (number 1) (λ places. done (record { mantissa = m; places = places })) (Finds-number row text 1)
-    (λ places. Finds-done {T = Number} row text (record { mantissa = m; places = places }))))
+Finds-typed row text types.Decimal = Finds-field row text decimal_parts (λ parts. present (decimal_in parts) WrongValue) (Finds-decimal row text)
     (λ parts. present_other (decimal_in parts) WrongValue wrong_value)
 Finds-typed row text types.Bool = Finds-rule row text 1 (λ byte. present (bool_of_byte byte) WrongValue) (λ byte. present_other (bool_of_byte byte) WrongValue wrong_value)
 Finds-typed row text types.Date = Finds-field row text date_parts (λ parts. present (day_in parts) WrongValue) (Finds-date row text) (λ parts. present_other (day_in parts) WrongValue wrong_value)
@@ -305,20 +313,69 @@ Finds-ask row text = Finds-field row text (number 1 >>= asked_by) (λ found. pre
 Finds-known : (row : RowReading) (text : List ℕ) (content : Content) → Finds row text (field name (known_layer_name content))
 Finds-known row text content = Finds-field row text name (known_layer_name content) (Finds-name row text) (λ title. allowed_other (has_layer content title) NoLayer title no_layer)
 
-Finds-column_known : (row : RowReading) (text : List ℕ) (content : Content) (layer : List ℕ) → Finds row text (field name (known_column_name content layer))
-Finds-column_known row text content layer = Finds-field row text name (known_column_name content layer) (Finds-name row text)
-    (λ title. allowed_other (has_column_in title (layer_of content layer)) NoColumn title no_column)
+Finds-column_known : (row : RowReading) (text : List ℕ) (content : Content) (layer : List ℕ) → Finds row text (field name (known_column content layer))
+Finds-column_known row text content layer = Finds-field row text name (known_column content layer) (Finds-name row text)
+    (λ title. present_other (option_map (λ column_type. (title, column_type)) (type_in (layer_of content layer) title)) NoColumn no_column)
+
+Finds-own : (row : RowReading) (text : List ℕ) (t : ColumnType) → Finds row text (own_value t)
+Finds-own row text types.Int = Finds-typed row text types.Int
+Finds-own row text types.Text = Finds-typed row text types.Text
+Finds-own row text types.Decimal = Finds-field row text decimal_parts (λ parts. present (fraction_in parts) WrongValue) (Finds-decimal row text) (λ parts. present_other (fraction_in parts) WrongValue wrong_value)
+Finds-own row text types.Bool = Finds-typed row text types.Bool
+Finds-own row text types.Date = Finds-typed row text types.Date
+Finds-own row text types.DateTime = Finds-typed row text types.DateTime
+
+Finds-named : (row : RowReading) (text : List ℕ) (t : ColumnType) → Finds row text (named_value t)
+Finds-named row text t = Finds-field row text any_value (λ value. allowed (is_of_type t value) WrongValue value)
+    (Finds-then row text (field (number 1) (λ byte. present (type_of_byte byte) WrongValue)) own_value
+    (Finds-rule row text 1 (λ byte. present (type_of_byte byte) WrongValue) (λ byte. present_other (type_of_byte byte) WrongValue wrong_value))
+    (Finds-own row text))
+    (λ value. allowed_other (is_of_type t value) WrongValue value wrong_value)
+
+Finds-end_value : (row : RowReading) (text : List ℕ) (t : ColumnType) (given : Bool) → Finds row text (end_value t given)
+Finds-end_value row text t false = Finds-done {T = Option AttrValue} row text None
+Finds-end_value row text t true = Finds-then row text (named_value t) (λ value. done (Some value)) (Finds-named row text t) (λ value. Finds-done {T = Option AttrValue} row text (Some value))
+
+Finds-range : (row : RowReading) (text : List ℕ) (t : ColumnType) → Finds row text (allowed_range t)
+Finds-range row text t = Finds-field row text (range_parts t) (λ range. allowed (not (are_apart range.from range.to)) WrongValue range)
+    (Finds-then row text (field (number 1) (λ byte. present (ends_of_byte byte) BadFile)) (range_after_ends t)
+    (Finds-rule row text 1 (λ byte. present (ends_of_byte byte) BadFile) (λ byte. present_other (ends_of_byte byte) BadFile bad_file))
+    (λ ends. Finds-then row text (end_value t ends.from) (range_after_from t ends) (Finds-end_value row text t ends.from)
+    (λ from. Finds-then row text (end_value t ends.to) (λ to. done (record { from = from; to = to })) (Finds-end_value row text t ends.to)
+    (λ to. Finds-done {T = ValueRange} row text (record { from = from; to = to })))))
+    (λ range. allowed_other (not (are_apart range.from range.to)) WrongValue range wrong_value)
+
+Finds-values : (row : RowReading) (text : List ℕ) (t : ColumnType) → Finds row text (allowed_values t)
+Finds-values row text t = Finds-then row text (field (number 2) (λ n. allowed (nat_lt 0 n && nat_le n values_max) WrongValue n)) (values_after_count t)
+    (Finds-rule row text 2 (λ n. allowed (nat_lt 0 n && nat_le n values_max) WrongValue n) (λ n. allowed_other (nat_lt 0 n && nat_le n values_max) WrongValue n wrong_value))
+    (λ count. Finds-items row text (λ earlier. named_value t) (λ earlier. Finds-named row text t) count [])
+
+Finds-demanded : (row : RowReading) (text : List ℕ) (t : ColumnType) (form : DemandForm) → Finds row text (demanded t form)
+Finds-demanded row text t forms.Unique = Finds-done {T = Demand} row text Unique
+Finds-demanded row text t forms.Required = Finds-done {T = Demand} row text Required
+Finds-demanded row text t forms.OneOf = Finds-then row text (allowed_values t) (λ vs. done (OneOf vs)) (Finds-values row text t) (λ vs. Finds-done {T = Demand} row text (OneOf vs))
+Finds-demanded row text t forms.InRange = Finds-then row text (allowed_range t) (λ range. done (InRange range)) (Finds-range row text t) (λ range. Finds-done {T = Demand} row text (InRange range))
+
+Finds-second : (row : RowReading) (text : List ℕ) (content : Content) (form : Form) (first : List ℕ) (asked : PairAsk) → Finds row text (said_after_ask content form first asked)
+Finds-second row text content form first asked =
+    Finds-then row text (field name (known_layer_name content)) (λ second. done (OfLayers (record { form = form; first = first; ask = asked; second = second })))
+    (Finds-known row text content) (λ second. Finds-done {T = Says} row text (OfLayers (record { form = form; first = first; ask = asked; second = second })))
 
 Finds-said : (row : RowReading) (text : List ℕ) (content : Content) (form : RuleForm) → Finds row text (said content form)
 Finds-said row text content (Between form) =
     Finds-then row text (field name (known_layer_name content)) (said_after_first content form) (Finds-known row text content)
-    (λ first. Finds-then row text ask (said_after_ask content form first) (Finds-ask row text)
-    (λ asked. Finds-then row text (field name (known_layer_name content)) (λ second. done (OfLayers (record { form = form; first = first; ask = asked; second = second })))
-    (Finds-known row text content) (λ second. Finds-done {T = Says} row text (OfLayers (record { form = form; first = first; ask = asked; second = second })))))
-Finds-said row text content (OnValues demand) =
-    Finds-then row text (field name (known_layer_name content)) (said_after_layer content demand) (Finds-known row text content)
-    (λ layer. Finds-then row text (field name (known_column_name content layer)) (λ column. done (OfValues (record { demand = demand; layer = layer; column = column })))
-    (Finds-column_known row text content layer) (λ column. Finds-done {T = Says} row text (OfValues (record { demand = demand; layer = layer; column = column }))))
+    (λ first. Finds-then row text ask (λ asked. said_after_ask content form first (Matrix asked)) (Finds-ask row text)
+    (λ asked. Finds-second row text content form first (Matrix asked)))
+Finds-said row text content (ByDistance form) =
+    Finds-then row text (field name (known_layer_name content)) (said_after_near content form) (Finds-known row text content)
+    (λ first. Finds-then row text distance (λ reach. said_after_ask content form first (Near reach))
+    (Finds-rule row text 8 (λ n. allowed (nat_lt n reach_limit) BadFile n) (λ n. allowed_other (nat_lt n reach_limit) BadFile n bad_file))
+    (λ reach. Finds-second row text content form first (Near reach)))
+Finds-said row text content (OnValues form) =
+    Finds-then row text (field name (known_layer_name content)) (said_after_layer content form) (Finds-known row text content)
+    (λ layer. Finds-then row text (field name (known_column content layer)) (said_after_column form layer) (Finds-column_known row text content layer)
+    (λ column. Finds-then row text (demanded column.1 form) (λ demand. done (OfValues (record { demand = demand; layer = layer; column = column.0 }))) (Finds-demanded row text column.1 form)
+    (λ demand. Finds-done {T = Says} row text (OfValues (record { demand = demand; layer = layer; column = column.0 })))))
 
 Finds-kept : (row : RowReading) (text : List ℕ) (version : Version) (content : Content) (earlier : List Rule) → Finds row text (rule version content earlier)
 Finds-kept row text version content earlier =

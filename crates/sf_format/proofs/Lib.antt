@@ -7,6 +7,7 @@ pub mod Counts
 pub mod Rules
 pub mod Names
 pub mod TakenNames
+pub mod NamedValues
 pub mod RulesAgain
 pub mod Rows
 pub mod Promises

@@ -1,7 +1,6 @@
 -- Only well-formed contents have files: what each reading of the format promises of its value.
-use Rattle.std.proofs.Common.{SFits, ◌≡◌, ℕ, ◌^◌, ◌<◌, ◌≤◌, Bool, true, false, cond, ◌&&◌, ◌||◌, ℤ, pos, negsuc, List, [], ◌∷◌, ◌++◌, map, length, Option, Some, None, IsTrue, Result, Ok, Err, bytes_eq, nat_eq, refl, sym, ap, subst, ◌∙◌, arith}
+use Rattle.std.proofs.Common.{◌≡◌, ℕ, ◌^◌, ◌<◌, ◌≤◌, Bool, true, false, cond, ◌&&◌, ◌||◌, List, [], ◌∷◌, ◌++◌, map, length, Option, Some, None, IsTrue, Result, Ok, Err, bytes_eq, nat_eq, refl, sym, ap, subst, ◌∙◌, arith}
 use Rattle.std.specs.Prelude.{IfOk, IsSomeAnd, find, nat_lt, nat_le}
-use Rattle.std.specs.Int.{w64, cast_signed}
 use Rattle.std.specs.List.{list_any, AllByRecursion}
 use Rattle.std.specs.List.Sorted.{IsStrictlySortedBy}
 use Rattle.std.specs.Map.{keys_of, values_of}
@@ -9,8 +8,6 @@ use Rattle.std.specs.Ordering.{nat_cmp}
 use Rattle.std.specs.Cmp.Lexicographic.{nat_list_eq_equiv}
 use Rattle.std.specs.declared.cmp.Ordering.TheVariants.{Less, Equal, Greater}
 use Rattle.std.proofs.lemmas.Bool.{leb-true, lt-ltb, ltb-true, eqb-true}
-use Rattle.std.proofs.lemmas.Int.{ints}
-use borrow.Author.Gap.{read_sfits}
 use Rattle.sf_geometry.specs.declared.geometry.Geometry.{Geometry}
 use Rattle.sf_geometry.specs.Kinds.{kind_of}
 use Rattle.sf_geometry.specs.Parts.{LiesOnGrid}
@@ -23,14 +20,11 @@ use Rattle.sf_wkb.specs.declared.fault.WkbFault.{WkbFault}
 use Rattle.sf_wkb.specs.Grammar.{read_in}
 use Rattle.sf_wkb.proofs.Sized.{read_is_sized}
 use Rattle.sf_features.specs.declared.column.Column.{Column}
-use Rattle.sf_features.specs.declared.column_type.ColumnType.{ColumnType}
-use Rattle.sf_features.specs.declared.column_type.ColumnType.TheVariants as types
 use Rattle.sf_features.specs.declared.attr_value.AttrValue.{AttrValue}
-use Rattle.sf_features.specs.declared.attr_value.AttrValue.TheVariants as values
 use Rattle.sf_features.specs.Names.{is_name}
 use Rattle.sf_features.specs.Columns.{IsDistinct, named, numbered}
 use Rattle.sf_features.specs.Features.{FeatureContent}
-use Rattle.sf_features.specs.Values.{fits_int, is_attr_text, is_of_type}
+use Rattle.sf_features.specs.Values.{is_of_type}
 use Rattle.sf_layers.specs.declared.layer_kind.LayerKind.{LayerKind}
 use Rattle.sf_layers.specs.Content.{Content, LayerContent, layer_of, admits}
 use Rattle.sf_layers.specs.WellFormed.{IsIssued, IsColumn, IsValue, IsFeature, IsLayer, IsWellFormed, layers_max}
@@ -46,15 +40,15 @@ use Rattle.sf_format.specs.declared.defect.Defect.{Defect}
 use Rattle.sf_format.specs.declared.defect.Defect.TheVariants.{TooManyVertices, LayerExists, NoColumn, ColumnExists, WrongValue, WrongKind, IdsExhausted, ColumnsExhausted, BadFile}
 use Rattle.sf_format.specs.Readings.{Fault, Reads, done, bytes, field, number, sized, items, end}
 use Rattle.sf_format.specs.Laws.{AreBytes, FilesAreRuledWell, FilesAreWellFormed, IsRule, IsRuledWell, RulesOfFilesHold}
-use Rattle.sf_format.specs.Format.{RowReading, row_max, allowed, present, last_number, name, kind_of_byte, type_of_byte, fresh_number, fresh_column_name, column, without_fault, admitted, geometry, decimal_parts, decimal_in, bool_of_byte, date_parts, day_in, moment_parts, moment_in, typed_value, next_column_of, value, next_of, feature, fresh_layer_name, layer, layers, content_in, head, version_of, on_grid, grid_of, rules_in, ruled_content_of, file, value_of, text_bytes}
+use Rattle.sf_format.specs.Format.{RowReading, row_max, allowed, present, last_number, name, kind_of_byte, type_of_byte, fresh_number, fresh_column_name, column, without_fault, admitted, geometry, typed_value, next_column_of, value, next_of, feature, fresh_layer_name, layer, layers, content_in, head, version_of, on_grid, grid_of, rules_in, ruled_content_of, file, value_of}
 use Rattle.sf_format.proofs.Again.{at}
-use Rattle.sf_format.proofs.Values.{date-promises, day_in-typed, decimal-promises, decimal_in-typed, moment-promises, moment_in-typed, truth-typed}
+use Rattle.sf_format.proofs.Values.{typed-promises}
 use Rattle.sf_format.proofs.Continuations.{column_after_type, column_after_number, value_after_column, geometry_after_size, feature_after_count, feature_after_geometry, feature_after_id, layer_after_feature_count, layer_after_columns, layer_after_column_count, layer_after_next_column, layer_after_next_id, layer_after_kind, layer_after_name, file_after_head, file_after_layers, file_after_rules}
 use Rattle.sf_format.proofs.Counts.{below_from_cmp}
 use Rattle.sf_format.proofs.Pushed.{all-more, distinct-push, items-length, name-promises}
 use Rattle.sf_format.proofs.RulesLoaded.{none-broken, rules-in-promise}
 use Rattle.sf_format.proofs.Rules.{allowed_of, both_of, none_of, not_true, present_of}
-use Rattle.sf_format.proofs.Promises.{Promises, Promises-bytes, Promises-done, Promises-field, Promises-items, Promises-number, Promises-rule, Promises-then, and_then_ok}
+use Rattle.sf_format.proofs.Promises.{Promises, Promises-bytes, Promises-done, Promises-field, Promises-items, Promises-rule, Promises-then, and_then_ok}
 
 -- ---- what stands before
 
@@ -133,24 +127,6 @@ columns-promise next count = Promises-items (column next) (AreColumns next)
     count [] (tt, tt, tt)
 
 -- ---- values
-
-fits-int : (n : ℤ) → SFits w64 n → fits_int n ≡ true
-fits-int (pos n) h = let below : n < 2 ^ 63 = h.sfits in grind (arith, ints)
-fits-int (negsuc n) h = let below : n < 2 ^ 63 = h.sfits in grind (arith, ints)
-
-pub typed-promises : (t : ColumnType) → Promises (typed_value t) (λ v. IsTrue (is_of_type t v))
-typed-promises types.Int = Promises-then (number 8) (λ n. done (values.Int (cast_signed w64 n))) (λ n. n < 256 ^ 8) (λ v. IsTrue (is_of_type types.Int v)) (Promises-number 8)
-    (λ n fits. Promises-done (λ v. IsTrue (is_of_type types.Int v)) (values.Int (cast_signed w64 n)) (fits-int (cast_signed w64 n) (read_sfits w64 n)))
-typed-promises types.Text = Promises-field text_bytes (λ text. allowed (is_attr_text text) WrongValue (values.Text text)) AreBytes (λ v. IsTrue (is_of_type types.Text v))
-    (Promises-then (number 2) bytes (λ n. n < 256 ^ 2) AreBytes (Promises-number 2) (λ size fits. Promises-bytes size))
-    (λ x y fits e. let r = allowed_of (is_attr_text x) WrongValue (values.Text x) y e in subst (λ v. IsTrue (is_of_type types.Text v)) r.1 r.0)
-typed-promises types.Decimal = Promises-field decimal_parts (λ parts. present (decimal_in parts) WrongValue) (λ d. Unit {0}) (λ v. IsTrue (is_of_type types.Decimal v)) decimal-promises
-    (λ x y any e. decimal_in-typed x y (present_of (decimal_in x) WrongValue y e))
-typed-promises types.Bool = Promises-rule 1 (λ byte. present (bool_of_byte byte) WrongValue) (λ v. IsTrue (is_of_type types.Bool v)) (λ n y fits e. truth-typed n y (present_of (bool_of_byte n) WrongValue y e))
-typed-promises types.Date = Promises-field date_parts (λ parts. present (day_in parts) WrongValue) (λ d. Unit {0}) (λ v. IsTrue (is_of_type types.Date v)) date-promises
-    (λ x y any e. day_in-typed x y (present_of (day_in x) WrongValue y e))
-typed-promises types.DateTime = Promises-field moment_parts (λ parts. present (moment_in parts) WrongValue) (λ m. Unit {0}) (λ v. IsTrue (is_of_type types.DateTime v)) moment-promises
-    (λ x y any e. moment_in-typed x y (present_of (moment_in x) WrongValue y e))
 
 -- what the rule of a column number found
 abbrev pub IsColumnAbove : List Column → ℕ → Column → Type 0

@@ -84,3 +84,59 @@ pub Promises-items : {X : Type 0} (item : List X → Reading X) (P : List X → 
 Promises-items item P each zero earlier holds = Promises-done P earlier holds
 Promises-items item P each (suc count) earlier holds =
     Promises-then (item earlier) (λ x. items item count (earlier ++ x ∷ [])) (λ x. P (earlier ++ x ∷ [])) P (each earlier holds) (λ x p. Promises-items item P each count (earlier ++ x ∷ []) p)
+
+-- ---- what holds whatever was read
+
+-- what a reading gives has the property
+abbrev pub Tells : {T : Type 0} → Reading T → (T → Type 0) → Type 0
+Tells {T} read P = (left : Left) (x : T) (rest : Left) → read left ≡ Ok (x, rest) → P x
+
+pub Tells-then : {A B : Type 0} (read : Reading A) (next : A → Reading B) (P : A → Type 0) (Q : B → Type 0) → Tells read P → ((x : A) → P x → Tells (next x) Q) → Tells (read >>= next) Q
+Tells-then read next P Q first second left y rest e =
+    let s = and_then_ok (read left) next y rest e in
+    second s.0 (first left s.0 s.1 s.2) s.1 y rest s.3
+
+pub Tells-field : {A B : Type 0} (read : Reading A) (rule : A → Result B Defect) (P : A → Type 0) (Q : B → Type 0) → Tells read P → ((x : A) (y : B) → P x → rule x ≡ Ok y → Q y) → Tells (field read rule) Q
+Tells-field read rule P Q first passes left y rest e =
+    let s = and_then_ok (read left) (λ value after. judged left.place after (rule value)) y rest e in
+    passes s.0 y (first left s.0 s.1 s.2) (judged_ok left.place s.1 (rule s.0) y rest s.3).0
+
+-- a rule tells of its field
+pub Tells-rule : {A B : Type 0} (read : Reading A) (rule : A → Result B Defect) (Q : B → Type 0) → ((x : A) (y : B) → rule x ≡ Ok y → Q y) → Tells (field read rule) Q
+Tells-rule read rule Q passes = Tells-field read rule (λ x. Unit {0}) Q (λ left x rest e. tt) (λ x y any e. passes x y e)
+
+pub Tells-done : {T : Type 0} (P : T → Type 0) (x : T) → P x → Tells (done x) P
+Tells-done P x holds left y rest e = let pair : ◌≡◌ {A = _ × Left} (x, left) (y, rest) = cc in subst P (ap (λ p. p.0) pair) holds
+
+pub Tells-items : {X : Type 0} (item : List X → Reading X) (P : List X → Type 0) → ((earlier : List X) → P earlier → Tells (item earlier) (λ x. P (earlier ++ x ∷ []))) → (count : ℕ) (earlier : List X) → P earlier
+    → Tells (items item count earlier) P
+Tells-items item P each zero earlier holds = Tells-done P earlier holds
+Tells-items item P each (suc count) earlier holds =
+    Tells-then (item earlier) (λ x. items item count (earlier ++ x ∷ [])) (λ x. P (earlier ++ x ∷ [])) P (each earlier holds) (λ x p. Tells-items item P each count (earlier ++ x ∷ []) p)
+
+-- ---- what leaves bytes
+
+abbrev pub Leaves : {T : Type 0} → Reading T → Type 0
+Leaves read = Promises read (λ x. Unit {0})
+
+pub Leaves-of : {T : Type 0} (read : Reading T) (P : T → Type 0) → Promises read P → Leaves read
+Leaves-of read P promises left x rest fits e = (tt, (promises left x rest fits e).1)
+
+pub Leaves-then : {A B : Type 0} (read : Reading A) (next : A → Reading B) → Leaves read → ((x : A) → Leaves (next x)) → Leaves (read >>= next)
+Leaves-then read next first second = Promises-then read next (λ x. Unit {0}) (λ y. Unit {0}) first (λ x any. second x)
+
+pub Leaves-field : {A B : Type 0} (read : Reading A) (rule : A → Result B Defect) → Leaves read → Leaves (field read rule)
+Leaves-field read rule first = Promises-field read rule (λ x. Unit {0}) (λ y. Unit {0}) first (λ x y any e. tt)
+
+pub Leaves-rule : {B : Type 0} (count : ℕ) (rule : ℕ → Result B Defect) → Leaves (field (number count) rule)
+Leaves-rule count rule = Promises-rule count rule (λ y. Unit {0}) (λ n y fits e. tt)
+
+pub Leaves-done : {T : Type 0} (x : T) → Leaves (done x)
+Leaves-done x = Promises-done (λ y. Unit {0}) x tt
+
+pub Leaves-items : {X : Type 0} (item : List X → Reading X) → ((earlier : List X) → Leaves (item earlier)) → (count : ℕ) (earlier : List X) → Leaves (items item count earlier)
+Leaves-items item each count earlier = Promises-items item (λ xs. Unit {0}) (λ earlier any. each earlier) count earlier tt
+
+-- a reading that leaves bytes promises what it tells
+pub Promises-told : {T : Type 0} (read : Reading T) (P : T → Type 0) → Leaves read → Tells read P → Promises read P
+Promises-told read P leaves tells left x rest fits e = (tells left x rest e, (leaves left x rest fits e).1)

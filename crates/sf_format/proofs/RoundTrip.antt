@@ -16,8 +16,6 @@ use Rattle.sf_valid_rules.specs.Verdicts.{first_fault}
 use Rattle.sf_wkb.specs.declared.grid.Grid.TheVariants.{Bits20, Bits24, Bits31}
 use Rattle.sf_wkb.specs.Grammar.{read_in, canonical as canonical_wkb}
 use Rattle.sf_features.specs.declared.column.Column.{Column}
-use Rattle.sf_features.specs.declared.column_type.ColumnType.{ColumnType}
-use Rattle.sf_features.specs.declared.column_type.ColumnType.TheVariants as types
 use Rattle.sf_features.specs.declared.attr_value.AttrValue.{AttrValue}
 use Rattle.sf_features.specs.Names.{is_name}
 use Rattle.sf_features.specs.Columns.{IsDistinct, named, numbered}
@@ -44,7 +42,7 @@ use Rattle.sf_format.proofs.Counts.{below_from_cmp, column-count, feature-count,
 use Rattle.sf_format.proofs.Names.{distinct-fresh, name-again}
 use Rattle.sf_format.proofs.Rules.{allowed-ok, both}
 use Rattle.sf_format.proofs.RulesAgain.{MayHave, any-may, layers-may, rules-again}
-use Rattle.sf_format.proofs.Values.{typed-again}
+use Rattle.sf_format.proofs.Values.{type-again, type_byte-fits, typed-again}
 use Rattle.sf_format.proofs.Rows.{HasRows, IsRow, narrow-rows, wide-rows}
 
 -- ---- what stands before
@@ -82,22 +80,6 @@ last-below (e ∷ []) x later some rising = below_from_cmp e.0 x.0 rising.0.0
 last-below (e ∷ (next ∷ more)) x later some rising = last-below (next ∷ more) x later some rising.1
 
 -- ---- names and columns
-
-type_byte-fits : (t : ColumnType) → type_byte t < 256
-type_byte-fits types.Int = omega arith
-type_byte-fits types.Text = omega arith
-type_byte-fits types.Decimal = omega arith
-type_byte-fits types.Bool = omega arith
-type_byte-fits types.Date = omega arith
-type_byte-fits types.DateTime = omega arith
-
-type-again : (t : ColumnType) → present (type_of_byte (type_byte t)) WrongValue ≡ Ok t
-type-again types.Int = refl
-type-again types.Text = refl
-type-again types.Decimal = refl
-type-again types.Bool = refl
-type-again types.Date = refl
-type-again types.DateTime = refl
 
 column-again : (next : ℕ) (earlier : List Column) (c : Column) → next ≤ column_end → IsColumn next c
     → list_any (λ e. bytes_eq e.name c.name) earlier ≡ false → list_any (λ e. nat_eq e.number c.number) earlier ≡ false → Again (column next earlier) (column_bytes c) c

@@ -1,28 +1,31 @@
 -- What the readings of rules promise of their values.
-use Rattle.std.proofs.Common.{◌≡◌, ◌+◌, ◌≤◌, ℕ, zero, suc, Bool, true, false, cond, not, ◌&&◌, List, [], ◌∷◌, ◌++◌, map, length, Option, Some, None, IsTrue, bytes_eq, option_map, option_and_then, refl, sym, ap, subst, ◌∙◌, arith}
+use Rattle.std.proofs.Common.{nat_lt, ◌≡◌, ◌+◌, ◌<◌, ◌≤◌, ℕ, zero, suc, Bool, true, false, cond, not, ◌&&◌, List, [], ◌∷◌, ◌++◌, map, length, Option, Some, None, IsTrue, Ok, bytes_eq, option_map, option_and_then, refl, sym, ap, subst, ◌∙◌, arith}
 use Rattle.std.specs.Prelude.{IfSome, is_some, ◌==◌}
 use Rattle.std.specs.List.{list_all, AllByRecursion}
-use Rattle.std.proofs.lemmas.Bool.{eqb-true}
+use Rattle.std.proofs.lemmas.Bool.{eqb-true, ltb-true}
 use Rattle.sf_known.specs.declared.letter.Letter.{Letter}
 use Rattle.sf_known.specs.declared.predicate.Predicate.{Predicate}
 use Rattle.sf_known.specs.Patterns.{letter_of, letters_of, pattern_of}
 use Rattle.sf_ruled_store.specs.Ruling.{Matching, Named}
+use Rattle.sf_features.specs.declared.column_type.ColumnType.{ColumnType}
 use Rattle.sf_features.specs.Columns.{IsDistinct}
 use Rattle.sf_features.specs.Names.{is_name}
 use Rattle.sf_layers.specs.Content.{Content, has_layer, layer_of}
-use Rattle.sf_ruled_store.specs.Ruling.{HasNineLetters}
+use Rattle.sf_ruled_store.specs.Ruling.{Form, HasNineLetters, IsPairAsk, Matrix, Near, PairAsk}
+use Rattle.sf_distance.specs.Reaches.{reach_limit}
 use Rattle.sf_ruled_store.specs.Ruling.{Rule, Says, OfLayers, OfValues}
 use Rattle.sf_ruled_store.specs.Ruling.{break_of, broken_from, broken_or}
-use Rattle.sf_ruled_store.specs.Ruled.{has_column_in, has_named, has_rule, has_said, rules_max}
+use Rattle.sf_ruled_store.specs.Ruled.{fits_column, has_named, has_rule, has_said, rules_max}
 use Rattle.sf_format.specs.declared.rule_form.RuleForm.{RuleForm}
-use Rattle.sf_format.specs.declared.rule_form.RuleForm.TheVariants.{Between, OnValues}
+use Rattle.sf_format.specs.declared.rule_form.RuleForm.TheVariants.{Between, ByDistance, OnValues}
 use Rattle.sf_format.specs.declared.version.Version.{Version}
 use Rattle.sf_format.specs.declared.version.Version.TheVariants.{First, Second, Third, Fourth}
 use Rattle.sf_format.specs.declared.defect.Defect.TheVariants.{BadFile, BadPattern, NoColumn, NoLayer, RuleBroken, RuleExists}
 use Rattle.sf_format.specs.Readings.{◌>>=◌, bytes, done, field, number, items}
-use Rattle.sf_format.specs.Format.{ask, asked_by, form_of_byte, fresh_rule_name, held_rule, known_column_name, known_layer_name, name, predicate_of_byte, present, rule, rules, rules_in, said, unbroken}
-use Rattle.sf_format.specs.Laws.{AreBytes, AsksForNine, IsRule}
-use Rattle.sf_format.proofs.Continuations.{rule_after_form, rule_after_name, said_after_ask, said_after_first, said_after_layer}
+use Rattle.sf_format.specs.Format.{allowed, ask, asked_by, demanded, distance, form_of_byte, fresh_rule_name, held_rule, known_column, known_layer_name, name, predicate_of_byte, present, rule, rules, rules_in, said, type_in, unbroken}
+use Rattle.sf_format.specs.Laws.{AreBytes, AsksWell, IsRule}
+use Rattle.sf_format.proofs.Continuations.{rule_after_form, rule_after_name, said_after_ask, said_after_column, said_after_first, said_after_layer, said_after_near}
+use Rattle.sf_format.proofs.NamedValues.{column-typed, demanded-promises}
 use Rattle.sf_format.proofs.Promises.{Promises, Promises-bytes, Promises-done, Promises-field, Promises-items, Promises-number, Promises-rule, Promises-then, and_then_ok}
 use Rattle.sf_format.proofs.Pushed.{all-more, distinct-push, items-length, name-promises}
 use Rattle.sf_format.proofs.TakenNames.{taken}
@@ -83,28 +86,55 @@ known-promises : (content : Content) → Promises (field name (known_layer_name 
 known-promises content = Promises-field name (known_layer_name content) (λ title. IsTrue (is_name title)) (λ title. has_layer content title ≡ true) name-promises
     (λ x y named e. let r = allowed_of (has_layer content x) NoLayer x y e in subst (λ t. has_layer content t ≡ true) r.1 r.0)
 
-column-promises : (content : Content) (layer : List ℕ) → Promises (field name (known_column_name content layer)) (λ title. has_column_in title (layer_of content layer) ≡ true)
+-- the name and the type of a column of a layer
+abbrev pub IsColumnOf : Content → List ℕ → List ℕ × ColumnType → Type 0
+IsColumnOf content layer column = type_in (layer_of content layer) column.0 ≡ Some column.1
+
+pub column-told : (content : Content) (layer title : List ℕ) (column : List ℕ × ColumnType) → known_column content layer title ≡ Ok column → IsColumnOf content layer column
+column-told content layer title column e = by (type_in (layer_of content layer) title) refl e
+  where
+    by : (o : Option ColumnType) → type_in (layer_of content layer) title ≡ o → present (option_map (λ column_type. (title, column_type)) o) NoColumn ≡ Ok column → IsColumnOf content layer column
+    by None is e = absurd cc
+    by (Some t) is e = let same : ◌≡◌ {A = List ℕ × ColumnType} (title, t) column = cc in subst (IsColumnOf content layer) same is
+
+column-promises : (content : Content) (layer : List ℕ) → Promises (field name (known_column content layer)) (IsColumnOf content layer)
 column-promises content layer =
-    Promises-field name (known_column_name content layer) (λ title. IsTrue (is_name title)) (λ title. has_column_in title (layer_of content layer) ≡ true) name-promises
-    (λ x y named e. let r = allowed_of (has_column_in x (layer_of content layer)) NoColumn x y e in subst (λ t. has_column_in t (layer_of content layer) ≡ true) r.1 r.0)
+    Promises-field name (known_column content layer) (λ title. IsTrue (is_name title)) (IsColumnOf content layer) name-promises
+    (λ x y named e. column-told content layer x y e)
 
 -- all that it names is there
 abbrev pub IsSaid : Content → Says → Type 0
-IsSaid content says = AsksForNine says × (has_said content says ≡ true)
+IsSaid content says = AsksWell says × (has_said content says ≡ true)
+
+-- a distance is below the limit
+distance-promises : Promises distance (λ reach. reach < reach_limit)
+distance-promises = Promises-rule 8 (λ n. allowed (nat_lt n reach_limit) BadFile n) (λ reach. reach < reach_limit)
+    (λ n y fits e. let r = allowed_of (nat_lt n reach_limit) BadFile n y e in subst (λ reach. reach < reach_limit) r.1 (ltb-true n reach_limit r.0))
+
+layers-promise : (content : Content) (form : Form) (first : List ℕ) (asked : PairAsk) → IsPairAsk asked → has_layer content first ≡ true → Promises (said_after_ask content form first asked) (IsSaid content)
+layers-promise content form first asked kept here =
+    Promises-then (field name (known_layer_name content)) (λ second. done (OfLayers (record { form = form; first = first; ask = asked; second = second })))
+    (λ second. has_layer content second ≡ true) (IsSaid content) (known-promises content)
+    (λ second there. Promises-done (IsSaid content) (OfLayers (record { form = form; first = first; ask = asked; second = second }))
+    (kept, two (has_layer content first) (has_layer content second) here there))
 
 said-promises : (content : Content) (form : RuleForm) → Promises (said content form) (IsSaid content)
 said-promises content (Between form) =
     Promises-then (field name (known_layer_name content)) (said_after_first content form) (λ first. has_layer content first ≡ true) (IsSaid content) (known-promises content)
-    (λ first here. Promises-then ask (said_after_ask content form first) HasNineLetters (IsSaid content) ask-promises
-    (λ asked nine. Promises-then (field name (known_layer_name content)) (λ second. done (OfLayers (record { form = form; first = first; ask = asked; second = second })))
-    (λ second. has_layer content second ≡ true) (IsSaid content) (known-promises content)
-    (λ second there. Promises-done (IsSaid content) (OfLayers (record { form = form; first = first; ask = asked; second = second }))
-    (nine, two (has_layer content first) (has_layer content second) here there))))
-said-promises content (OnValues demand) =
-    Promises-then (field name (known_layer_name content)) (said_after_layer content demand) (λ layer. has_layer content layer ≡ true) (IsSaid content) (known-promises content)
-    (λ layer here. Promises-then (field name (known_column_name content layer)) (λ column. done (OfValues (record { demand = demand; layer = layer; column = column })))
-    (λ column. has_column_in column (layer_of content layer) ≡ true) (IsSaid content) (column-promises content layer)
-    (λ column there. Promises-done (IsSaid content) (OfValues (record { demand = demand; layer = layer; column = column })) (tt, there)))
+    (λ first here. Promises-then ask (λ asked. said_after_ask content form first (Matrix asked)) HasNineLetters (IsSaid content) ask-promises
+    (λ asked nine. layers-promise content form first (Matrix asked) nine here))
+said-promises content (ByDistance form) =
+    Promises-then (field name (known_layer_name content)) (said_after_near content form) (λ first. has_layer content first ≡ true) (IsSaid content) (known-promises content)
+    (λ first here. Promises-then distance (λ reach. said_after_ask content form first (Near reach)) (λ reach. reach < reach_limit) (IsSaid content) distance-promises
+    (λ reach below. layers-promise content form first (Near reach) below here))
+said-promises content (OnValues form) =
+    Promises-then (field name (known_layer_name content)) (said_after_layer content form) (λ layer. has_layer content layer ≡ true) (IsSaid content) (known-promises content)
+    (λ layer here. Promises-then (field name (known_column content layer)) (said_after_column form layer) (IsColumnOf content layer) (IsSaid content) (column-promises content layer)
+    (λ column is. let there = column-typed (layer_of content layer) column.0 column.1 is in
+    Promises-then (demanded column.1 form) (λ demand. done (OfValues (record { demand = demand; layer = layer; column = column.0 }))) (λ d. fits_column d (Some there.0) ≡ true) (IsSaid content)
+    (subst (λ t. Promises (demanded t form) (λ d. fits_column d (Some there.0) ≡ true)) there.1 (demanded-promises there.0 form))
+    (λ demand fits. Promises-done (IsSaid content) (OfValues (record { demand = demand; layer = layer; column = column.0 }))
+    (tt, there.2 (record { demand = demand; layer = layer; column = column.0 }) refl fits))))
 
 abbrev pub IsNewName : List Rule → List ℕ → Type 0
 IsNewName earlier title = IsTrue (is_name title) × (has_rule title earlier ≡ false)
@@ -117,7 +147,7 @@ rule-promises version content earlier =
     (λ title new. Promises-then (field (number 1) (λ byte. present (form_of_byte version byte) BadFile)) (rule_after_form content title) (λ form. Unit {0}) (IsNewRule content earlier)
     (Promises-rule 1 (λ byte. present (form_of_byte version byte) BadFile) (λ form. Unit {0}) (λ n y fits e. tt))
     (λ form any. Promises-then (said content form) (λ says. done (record { name = title; says = says })) (IsSaid content) (IsNewRule content earlier) (said-promises content form)
-    (λ says is. Promises-done (IsNewRule content earlier) (record { name = title; says = says }) (record { named = new.0; nine = is.0 }, new.1, is.1))))
+    (λ says is. Promises-done (IsNewRule content earlier) (record { name = title; says = says }) (record { named = new.0; asks = is.0 }, new.1, is.1))))
 
 abbrev pub IsHeldRule : Content → List Rule → Rule → Type 0
 IsHeldRule content earlier r = IsNewRule content earlier r × (break_of content r ≡ None)

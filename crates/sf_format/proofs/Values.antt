@@ -1,5 +1,5 @@
 -- The bytes of a value are read as that value, and what is read of a column is a value of its type.
-use Rattle.std.proofs.Common.{SFits, ◌≡◌, ℕ, ◌<◌, ◌≤◌, ◌^◌, Bool, true, false, ◌&&◌, ℤ, pos, negsuc, List, ◌++◌, length, None, Ok, Some, refl, ap, sym, ◌∙◌, arith}
+use Rattle.std.proofs.Common.{SFits, ◌≡◌, ℕ, ◌<◌, ◌≤◌, ◌^◌, Bool, true, false, ◌&&◌, ℤ, pos, negsuc, List, ◌++◌, length, IsTrue, None, Ok, Some, refl, ap, sym, subst, ◌∙◌, arith}
 use Rattle.std.specs.Prelude.{◌==◌, ◌||◌, if◌then◌else◌, nat_eq, nat_le, nat_lt}
 use Rattle.std.specs.Int.{w64, cast_signed, cast_unsigned}
 use Rattle.std.specs.List.{list_all}
@@ -8,6 +8,7 @@ use Rattle.std.proofs.lemmas.Bool.{leb-true, ltb-true}
 use Rattle.std.proofs.lemmas.Bool.Decides.{nat_tests}
 use Rattle.std.proofs.lemmas.Int.{ints, to_z-of_z}
 use mir.ValLaws as laws
+use borrow.Author.Gap.{read_sfits}
 use Rattle.byteorder.specs.Endian.{big_bytes}
 use Rattle.sf_dates.specs.declared.day.Day.{Day}
 use Rattle.sf_dates.specs.declared.moment.Moment.{Moment}
@@ -21,12 +22,13 @@ use Rattle.sf_features.specs.declared.attr_value.AttrValue.TheVariants as values
 use Rattle.sf_features.specs.Values.{is_attr_text, is_of_type, is_text_byte, number_value, text_max}
 use Rattle.sf_format.specs.declared.defect.Defect.TheVariants.{WrongValue}
 use Rattle.sf_format.specs.Readings.{bytes, done, number}
-use Rattle.sf_format.specs.Format.{allowed, bool_of_byte, date_parts, day_in, decimal_in, decimal_parts, moment_in, moment_parts, present, signed_number, typed_value, text_bytes}
-use Rattle.sf_format.specs.Canonical.{behind_length, date_bytes, decimal_bytes, int_bytes, is_decimal_type, moment_bytes, typed_bytes}
+use Rattle.sf_format.specs.Laws.{AreBytes}
+use Rattle.sf_format.specs.Format.{allowed, bool_of_byte, date_parts, day_in, decimal_in, decimal_parts, moment_in, moment_parts, present, signed_number, type_of_byte, typed_value, text_bytes}
+use Rattle.sf_format.specs.Canonical.{behind_length, date_bytes, decimal_bytes, int_bytes, is_decimal_type, moment_bytes, type_byte, typed_bytes}
 use Rattle.sf_format.proofs.Again.{Again, Again-bytes, Again-field, Again-made, Again-number, Again-number_field, Again-then, Again-value}
 use Rattle.sf_format.proofs.Continuations.{date_after_month, date_after_year, decimal_after_mantissa, moment_after_date}
-use Rattle.sf_format.proofs.Promises.{Promises, Promises-done, Promises-number, Promises-then}
-use Rattle.sf_format.proofs.Rules.{allowed-ok, both, both_of}
+use Rattle.sf_format.proofs.Promises.{Promises, Promises-bytes, Promises-done, Promises-field, Promises-number, Promises-rule, Promises-then}
+use Rattle.sf_format.proofs.Rules.{allowed-ok, allowed_of, both, both_of, present_of}
 
 -- ---- texts and numbers
 
@@ -44,7 +46,7 @@ signed-again m fits =
     Again-value signed_number (big_bytes 8 (cast_unsigned w64 m)) (cast_signed w64 (cast_unsigned w64 m)) m (to_z-of_z w64 m (fits-signed m fits))
     (Again-made (number 8) (cast_signed w64) (big_bytes 8 (cast_unsigned w64 m)) (cast_unsigned w64 m) (Again-number 8 (cast_unsigned w64 m) (laws.of_z_fits w64 m (fits-signed m fits)).fits))
 
-parts-again : (m : ℤ) (places : ℕ) → fits_int m ≡ true → places < 256
+pub parts-again : (m : ℤ) (places : ℕ) → fits_int m ≡ true → places < 256
     → Again decimal_parts (big_bytes 8 (cast_unsigned w64 m) ++ big_bytes 1 places) (record { mantissa = m; places = places })
 parts-again m places fits few =
     Again-then signed_number decimal_after_mantissa (big_bytes 8 (cast_unsigned w64 m)) (big_bytes 1 places) m (record { mantissa = m; places = places }) (signed-again m fits)
@@ -55,20 +57,20 @@ whole-decimal : (n : ℤ) → fits_int n ≡ true → is_decimal (record { manti
 whole-decimal n fits = ap (λ b. b && true && true) fits
 
 -- the parts of what says that a number is in its one form
-decimal-parts : (d : Number) → is_decimal d ≡ true → (fits_int d.mantissa ≡ true) × (d.places ≤ 18)
+pub decimal-parts : (d : Number) → is_decimal d ≡ true → (fits_int d.mantissa ≡ true) × (d.places ≤ 18)
 decimal-parts d is =
     let outer = both_of (fits_int d.mantissa && nat_le d.places places_max) (is_reduced d.places (magnitude d.mantissa)) is in
     let inner = both_of (fits_int d.mantissa) (nat_le d.places places_max) outer.0 in
     (inner.0, leb-true d.places places_max inner.1)
 
 -- a number with places is no whole one
-with-places : (n : ℕ) → nat_lt 0 n ≡ true → (n == 0) ≡ false
+pub with-places : (n : ℕ) → nat_lt 0 n ≡ true → (n == 0) ≡ false
 with-places n h = grind (arith, nat_tests)
 
 without-places : (n : ℕ) → (n == 0) ≡ false → nat_lt 0 n ≡ true
 without-places n h = grind (arith, nat_tests)
 
-fraction-value : (d : Number) → nat_lt 0 d.places ≡ true → number_value d ≡ values.Decimal d
+pub fraction-value : (d : Number) → nat_lt 0 d.places ≡ true → number_value d ≡ values.Decimal d
 fraction-value d some = ap (λ b. if b then values.Int d.mantissa else values.Decimal d) (with-places d.places some)
 
 -- ---- days
@@ -117,9 +119,27 @@ moment-again m is =
     Again-then date_parts moment_after_date (date_bytes m.date) (big_bytes 4 m.millisecond) m.date m (date-again m.date parts.0)
     (Again-made (number 4) (λ n. record { date = m.date; millisecond = n }) (big_bytes 4 m.millisecond) m.millisecond (Again-number 4 m.millisecond (omega (arith, parts.1))))
 
+-- ---- types
+
+pub type_byte-fits : (t : ColumnType) → type_byte t < 256
+type_byte-fits types.Int = omega arith
+type_byte-fits types.Text = omega arith
+type_byte-fits types.Decimal = omega arith
+type_byte-fits types.Bool = omega arith
+type_byte-fits types.Date = omega arith
+type_byte-fits types.DateTime = omega arith
+
+pub type-again : (t : ColumnType) → present (type_of_byte (type_byte t)) WrongValue ≡ Ok t
+type-again types.Int = refl
+type-again types.Text = refl
+type-again types.Decimal = refl
+type-again types.Bool = refl
+type-again types.Date = refl
+type-again types.DateTime = refl
+
 -- ---- values of a type
 
-there : {b : Bool} (v : AttrValue) → b ≡ true → present (if b then Some v else None) WrongValue ≡ Ok v
+pub there : {b : Bool} (v : AttrValue) → b ≡ true → present (if b then Some v else None) WrongValue ≡ Ok v
 there v is = ap (λ b. present (if b then Some v else None) WrongValue) is
 
 -- what a test has let pass
@@ -216,13 +236,31 @@ decimal-promises = Promises-then signed_number decimal_after_mantissa (λ n. Uni
     (λ m any. Promises-then (number 1) (λ places. done (record { mantissa = m; places = places })) (λ n. n < 256 ^ 1) (λ d. Unit {0}) (Promises-number 1)
     (λ places few. Promises-done {T = Number} (λ d. Unit {0}) (record { mantissa = m; places = places }) tt))
 
-pub date-promises : Promises date_parts (λ d. Unit {0})
+date-promises : Promises date_parts (λ d. Unit {0})
 date-promises = Promises-then (number 2) date_after_year (λ n. n < 256 ^ 2) (λ d. Unit {0}) (Promises-number 2)
     (λ year few. Promises-then (number 1) (date_after_month year) (λ n. n < 256 ^ 1) (λ d. Unit {0}) (Promises-number 1)
     (λ month little. Promises-then (number 1) (λ day. done (record { year = year; month = month; day = day })) (λ n. n < 256 ^ 1) (λ d. Unit {0}) (Promises-number 1)
     (λ day less. Promises-done {T = Day} (λ d. Unit {0}) (record { year = year; month = month; day = day }) tt)))
 
-pub moment-promises : Promises moment_parts (λ m. Unit {0})
+moment-promises : Promises moment_parts (λ m. Unit {0})
 moment-promises = Promises-then date_parts moment_after_date (λ d. Unit {0}) (λ m. Unit {0}) date-promises
     (λ day any. Promises-then (number 4) (λ n. done (record { date = day; millisecond = n })) (λ n. n < 256 ^ 4) (λ m. Unit {0}) (Promises-number 4)
     (λ n few. Promises-done {T = Moment} (λ m. Unit {0}) (record { date = day; millisecond = n }) tt))
+
+fits-int : (n : ℤ) → SFits w64 n → fits_int n ≡ true
+fits-int (pos n) h = let below : n < 2 ^ 63 = h.sfits in grind (arith, ints)
+fits-int (negsuc n) h = let below : n < 2 ^ 63 = h.sfits in grind (arith, ints)
+
+pub typed-promises : (t : ColumnType) → Promises (typed_value t) (λ v. IsTrue (is_of_type t v))
+typed-promises types.Int = Promises-then (number 8) (λ n. done (values.Int (cast_signed w64 n))) (λ n. n < 256 ^ 8) (λ v. IsTrue (is_of_type types.Int v)) (Promises-number 8)
+    (λ n fits. Promises-done (λ v. IsTrue (is_of_type types.Int v)) (values.Int (cast_signed w64 n)) (fits-int (cast_signed w64 n) (read_sfits w64 n)))
+typed-promises types.Text = Promises-field text_bytes (λ text. allowed (is_attr_text text) WrongValue (values.Text text)) AreBytes (λ v. IsTrue (is_of_type types.Text v))
+    (Promises-then (number 2) bytes (λ n. n < 256 ^ 2) AreBytes (Promises-number 2) (λ size fits. Promises-bytes size))
+    (λ x y fits e. let r = allowed_of (is_attr_text x) WrongValue (values.Text x) y e in subst (λ v. IsTrue (is_of_type types.Text v)) r.1 r.0)
+typed-promises types.Decimal = Promises-field decimal_parts (λ parts. present (decimal_in parts) WrongValue) (λ d. Unit {0}) (λ v. IsTrue (is_of_type types.Decimal v)) decimal-promises
+    (λ x y any e. decimal_in-typed x y (present_of (decimal_in x) WrongValue y e))
+typed-promises types.Bool = Promises-rule 1 (λ byte. present (bool_of_byte byte) WrongValue) (λ v. IsTrue (is_of_type types.Bool v)) (λ n y fits e. truth-typed n y (present_of (bool_of_byte n) WrongValue y e))
+typed-promises types.Date = Promises-field date_parts (λ parts. present (day_in parts) WrongValue) (λ d. Unit {0}) (λ v. IsTrue (is_of_type types.Date v)) date-promises
+    (λ x y any e. day_in-typed x y (present_of (day_in x) WrongValue y e))
+typed-promises types.DateTime = Promises-field moment_parts (λ parts. present (moment_in parts) WrongValue) (λ m. Unit {0}) (λ v. IsTrue (is_of_type types.DateTime v)) moment-promises
+    (λ x y any e. moment_in-typed x y (present_of (moment_in x) WrongValue y e))

@@ -7,11 +7,11 @@ use Rattle.sf_known.specs.Patterns.{pattern_text}
 use Rattle.sf_known.specs.declared.predicate.Predicate.{Predicate}
 use Rattle.sf_known.specs.declared.predicate.Predicate.TheVariants as predicates
 use Rattle.sf_ruled_store.specs.Ruling.{Ask}
-use Rattle.sf_ruled_store.specs.Ruling.{Matching, Named}
+use Rattle.sf_ruled_store.specs.Ruling.{Matching, Matrix, Named, Near, PairAsk}
 use Rattle.sf_ruled_store.specs.Ruling.{Rule, Says, OfLayers, OfValues}
 use Rattle.sf_ruled_store.specs.Ruling.{Form}
 use Rattle.sf_ruled_store.specs.Ruling.{Never, Each}
-use Rattle.sf_ruled_store.specs.Ruling.{Demand, Required, Unique}
+use Rattle.sf_ruled_store.specs.Ruling.{Demand, InRange, OneOf, Required, Unique}
 use Rattle.sf_ruled_store.specs.Ruled.{Ruled}
 use Rattle.sf_features.specs.Features.{FeatureContent}
 use Rattle.sf_features.specs.Columns.{numbered}
@@ -117,10 +117,49 @@ abbrev pub form_byte : Form → ℕ
 form_byte Never = 1
 form_byte Each = 2
 
+-- where it asks for what is near
+abbrev pub distance_form_byte : Form → ℕ
+distance_form_byte Never = 7
+distance_form_byte Each = 8
+
 -- the byte of what a rule demands of values
 abbrev pub demand_byte : Demand → ℕ
 demand_byte Unique = 3
 demand_byte Required = 4
+demand_byte (OneOf allowed) = 5
+demand_byte (InRange range) = 6
+
+-- the type that a value is of by itself; a whole number is one in a column of decimals too
+abbrev pub own_type : AttrValue → ColumnType
+own_type (values.Int n) = types.Int
+own_type (values.Text text) = types.Text
+own_type (values.Decimal number) = types.Decimal
+own_type (values.Bool b) = types.Bool
+own_type (values.Date day) = types.Date
+own_type (values.DateTime moment) = types.DateTime
+
+-- the bytes of a value that a rule names, behind the byte of its own type
+abbrev pub named_bytes : AttrValue → List ℕ
+named_bytes value = big_bytes 1 (type_byte (own_type value)) ++ typed_bytes false value
+
+-- the byte of the ends of a range that are given; a range of a rule has one
+abbrev pub ends_byte : Option AttrValue → Option AttrValue → ℕ
+ends_byte None None = 0
+ends_byte (Some from) None = 1
+ends_byte None (Some to) = 2
+ends_byte (Some from) (Some to) = 3
+
+-- the bytes of an end, where it is given
+abbrev pub end_bytes : Option AttrValue → List ℕ
+end_bytes None = []
+end_bytes (Some value) = named_bytes value
+
+-- the bytes of the values that a rule names, behind its layer and its column
+abbrev pub demand_bytes : Demand → List ℕ
+demand_bytes Unique = []
+demand_bytes Required = []
+demand_bytes (OneOf allowed) = big_bytes 2 (length allowed) ++ flat_map named_bytes allowed
+demand_bytes (InRange range) = big_bytes 1 (ends_byte range.from range.to) ++ (end_bytes range.from ++ end_bytes range.to)
 
 -- the byte of a named predicate
 abbrev pub predicate_byte : Predicate → ℕ
@@ -138,10 +177,22 @@ abbrev pub ask_bytes : Ask → List ℕ
 ask_bytes (Named predicate) = big_bytes 1 (predicate_byte predicate)
 ask_bytes (Matching pattern) = big_bytes 1 0 ++ pattern_text pattern
 
+-- the byte of the form of a rule between layers, by what it asks
+abbrev pub pair_form_byte : PairAsk → Form → ℕ
+pair_form_byte (Matrix ask) form = form_byte form
+pair_form_byte (Near reach) form = distance_form_byte form
+
+-- the bytes of what is asked of two features: of their matrix, or a distance in thousandths of a grid step
+abbrev pub pair_bytes : PairAsk → List ℕ
+pair_bytes (Matrix ask) = ask_bytes ask
+pair_bytes (Near reach) = big_bytes 8 reach
+
 -- the bytes of what a rule says, behind the byte of its form
 abbrev pub says_bytes : Says → List ℕ
-says_bytes (OfLayers rule) = big_bytes 1 (form_byte rule.form) ++ (behind_length 1 rule.first ++ (ask_bytes rule.ask ++ behind_length 1 rule.second))
-says_bytes (OfValues rule) = big_bytes 1 (demand_byte rule.demand) ++ (behind_length 1 rule.layer ++ behind_length 1 rule.column)
+says_bytes (OfLayers rule) =
+    big_bytes 1 (pair_form_byte rule.ask rule.form) ++ (behind_length 1 rule.first ++ (pair_bytes rule.ask ++ behind_length 1 rule.second))
+says_bytes (OfValues rule) =
+    big_bytes 1 (demand_byte rule.demand) ++ (behind_length 1 rule.layer ++ (behind_length 1 rule.column ++ demand_bytes rule.demand))
 
 -- the bytes of a rule, behind its name
 abbrev pub rule_bytes : Rule → List ℕ

@@ -1,5 +1,5 @@
 -- The file format: the content and the rules of a file's bytes, or the first fault in them.
-use Rattle.std.specs.Prelude.{ℕ, ℤ, Bool, true, false, not, ◌&&◌, List, [], ◌∷◌, length, Option, None, Some, Result, Ok, Err, nat_lt, nat_le, nat_eq, bytes_eq, codes, is_some, option_map, zero, suc, if◌then◌else◌}
+use Rattle.std.specs.Prelude.{ℕ, ℤ, Bool, true, false, not, ◌&&◌, ◌==◌, List, [], ◌∷◌, length, Option, None, Some, Result, Ok, Err, nat_lt, nat_le, nat_eq, bytes_eq, codes, is_some, option_map, zero, suc, if◌then◌else◌}
 use Rattle.std.specs.Int.{w64, cast_signed}
 use Rattle.std.specs.Map.{lookup}
 use Rattle.sf_geometry.specs.declared.geometry.Geometry.{Geometry}
@@ -11,7 +11,8 @@ use Rattle.sf_known.specs.declared.predicate.Predicate.{Predicate}
 use Rattle.sf_known.specs.declared.predicate.Predicate.TheVariants.{Equals, Disjoint, Intersects, Touches, Within, Contains, Crosses, Overlaps}
 use Rattle.sf_known.specs.Patterns.{pattern_of}
 use Rattle.sf_ruled_store.specs.Ruling.{Ask}
-use Rattle.sf_ruled_store.specs.Ruling.{Matching, Named}
+use Rattle.sf_ruled_store.specs.Ruling.{Matching, Matrix, Named, Near}
+use Rattle.sf_distance.specs.Reaches.{reach_limit}
 use Rattle.sf_wkb.specs.declared.fault.WkbFault.{WkbFault}
 use Rattle.sf_wkb.specs.declared.grid.Grid.{Grid}
 use Rattle.sf_wkb.specs.declared.grid.Grid.TheVariants.{Bits20, Bits24, Bits31}
@@ -19,16 +20,18 @@ use Rattle.sf_wkb.specs.Grammar.{read_in}
 use Rattle.sf_features.specs.Names.{is_name}
 use Rattle.sf_features.specs.Columns.{named, numbered}
 use Rattle.sf_features.specs.Features.{FeatureContent}
-use Rattle.sf_features.specs.Values.{is_attr_text, number_value}
+use Rattle.sf_features.specs.Values.{is_attr_text, is_of_type, number_value}
 use Rattle.sf_decimals.specs.declared.number.Number.{Number}
 use Rattle.sf_decimals.specs.Decimals.{is_decimal}
 use Rattle.sf_dates.specs.declared.day.Day.{Day}
 use Rattle.sf_dates.specs.declared.moment.Moment.{Moment}
 use Rattle.sf_dates.specs.Calendar.{is_day, is_moment}
-use Rattle.sf_layers.specs.Content.{Content, LayerContent, has_layer, layer_of, admits}
+use Rattle.sf_layers.specs.Content.{Content, LayerContent, column_named, has_layer, layer_of, admits}
+use Rattle.sf_layers.specs.Found.{are_apart}
 use Rattle.sf_layers.specs.WellFormed.{layers_max}
 use Rattle.sf_layers.specs.declared.layer_kind.LayerKind.{LayerKind}
 use Rattle.sf_layers.specs.declared.layer_kind.LayerKind.TheVariants.{Any, Only}
+use Rattle.sf_layers.specs.declared.value_range.ValueRange.{ValueRange}
 use Rattle.sf_features.specs.declared.column.Column.{Column}
 use Rattle.sf_features.specs.declared.column_type.ColumnType.{ColumnType}
 use Rattle.sf_features.specs.declared.column_type.ColumnType.TheVariants as types
@@ -36,11 +39,14 @@ use Rattle.sf_features.specs.declared.attr_value.AttrValue.{AttrValue}
 use Rattle.sf_features.specs.declared.attr_value.AttrValue.TheVariants as values
 use Rattle.sf_ruled_store.specs.Ruling.{Rule, Says, OfLayers, OfValues}
 use Rattle.sf_ruled_store.specs.Ruling.{Never, Each}
-use Rattle.sf_ruled_store.specs.Ruling.{Required, Unique}
+use Rattle.sf_ruled_store.specs.Ruling.{Demand, InRange, OneOf, Required, Unique}
 use Rattle.sf_ruled_store.specs.Ruling.{break_of}
-use Rattle.sf_ruled_store.specs.Ruled.{Ruled, has_column_in, has_rule}
+use Rattle.sf_ruled_store.specs.Ruled.{Ruled, has_rule}
+use Rattle.sf_format.specs.declared.range_ends.RangeEnds.{RangeEnds}
+use Rattle.sf_format.specs.declared.rule_form.DemandForm.{DemandForm}
+use Rattle.sf_format.specs.declared.rule_form.DemandForm.TheVariants as forms
 use Rattle.sf_format.specs.declared.rule_form.RuleForm.{RuleForm}
-use Rattle.sf_format.specs.declared.rule_form.RuleForm.TheVariants.{Between, OnValues}
+use Rattle.sf_format.specs.declared.rule_form.RuleForm.TheVariants.{Between, ByDistance, OnValues}
 use Rattle.sf_format.specs.declared.version.Version.{Version}
 use Rattle.sf_format.specs.declared.version.Version.TheVariants.{First, Second, Third, Fourth}
 use Rattle.sf_format.specs.declared.defect.Defect.{Defect}
@@ -50,6 +56,10 @@ use Rattle.sf_format.specs.Readings.{Fault, Reads, Reading, ◌>>=◌, done, byt
 -- how many bytes a binary geometry of a file has at most
 abbrev pub row_max : ℕ
 row_max = 2097152
+
+-- how many values a rule names at most
+abbrev pub values_max : ℕ
+values_max = 1000
 
 -- how binary geometries are read
 abbrev pub RowReading : Type 0
@@ -235,9 +245,14 @@ fresh_rule_name earlier text = allowed (not (has_rule text earlier)) RuleExists 
 abbrev pub known_layer_name : Content → List ℕ → Result (List ℕ) Defect
 known_layer_name content text = allowed (has_layer content text) NoLayer text
 
--- a name that a column of the layer has
-abbrev pub known_column_name : Content → List ℕ → List ℕ → Result (List ℕ) Defect
-known_column_name content layer text = allowed (has_column_in text (layer_of content layer)) NoColumn text
+-- the type of the column of a name, where the layer is there and has one
+abbrev pub type_in : Option LayerContent → List ℕ → Option ColumnType
+type_in None text = None
+type_in (Some layer) text = option_map (λ column. column.column_type) (column_named layer text)
+
+-- a name that a column of the layer has, and the type of that column
+abbrev pub known_column : Content → List ℕ → List ℕ → Result (List ℕ × ColumnType) Defect
+known_column content layer text = present (option_map (λ column_type. (text, column_type)) (type_in (layer_of content layer) text)) NoColumn
 
 -- the form of a rule between layers that a byte stands for
 abbrev pub form_between : ℕ → Option RuleForm
@@ -245,9 +260,10 @@ form_between byte = lookup (nat_eq byte) ((1, Between Never) ∷ (2, Between Eac
 
 -- the form of any rule
 abbrev pub any_form : ℕ → Option RuleForm
-any_form byte = lookup (nat_eq byte) ((1, Between Never) ∷ (2, Between Each) ∷ (3, OnValues Unique) ∷ (4, OnValues Required) ∷ [])
+any_form byte = lookup (nat_eq byte) ((1, Between Never) ∷ (2, Between Each) ∷ (3, OnValues forms.Unique) ∷ (4, OnValues forms.Required) ∷ (5, OnValues forms.OneOf)
+    ∷ (6, OnValues forms.InRange) ∷ (7, ByDistance Never) ∷ (8, ByDistance Each) ∷ [])
 
--- the form of a rule that a byte stands for in a file of a version: rules on values came with the fourth
+-- the form of a rule that a byte stands for in a file of a version: rules on values, and those by distance, came with the fourth
 abbrev pub form_of_byte : Version → ℕ → Option RuleForm
 form_of_byte Fourth byte = any_form byte
 form_of_byte version byte = form_between byte
@@ -273,17 +289,86 @@ asked = do
 abbrev pub ask : Reading Ask
 ask = field asked (λ found. present found BadPattern)
 
+-- a number as a value, where that is its one form and has places behind the point: a whole one is written as such
+abbrev pub fraction_in : Number → Option AttrValue
+fraction_in parts = if parts.places == 0 then None else decimal_in parts
+
+-- a value whose own type this is
+abbrev pub own_value : ColumnType → Reading AttrValue
+own_value types.Decimal = field decimal_parts (λ parts. present (fraction_in parts) WrongValue)
+own_value own = typed_value own
+
+-- a value behind the byte of its own type
+abbrev pub any_value : Reading AttrValue
+any_value = do
+  own ← field (number 1) (λ byte. present (type_of_byte byte) WrongValue)
+  own_value own
+
+-- a value that a rule names, which may stand in a column of the type
+abbrev pub named_value : ColumnType → Reading AttrValue
+named_value column_type = field any_value (λ value. allowed (is_of_type column_type value) WrongValue value)
+
+-- the values that a rule allows, behind their number
+abbrev pub allowed_values : ColumnType → Reading (List AttrValue)
+allowed_values column_type = do
+  count ← field (number 2) (λ n. allowed (nat_lt 0 n && nat_le n values_max) WrongValue n)
+  items (λ earlier. named_value column_type) count []
+
+-- the ends of a range that a byte stands for: the first, the last, or both
+abbrev pub ends_of_byte : ℕ → Option RangeEnds
+ends_of_byte byte = lookup (nat_eq byte) ((1, record { from = true; to = false }) ∷ (2, record { from = false; to = true }) ∷ (3, record { from = true; to = true }) ∷ [])
+
+-- an end of a range, where it is given
+abbrev pub end_value : ColumnType → Bool → Reading (Option AttrValue)
+end_value column_type false = done None
+end_value column_type true = do
+  value ← named_value column_type
+  done (Some value)
+
+-- the ends of a range, behind the byte that says which are given
+abbrev pub range_parts : ColumnType → Reading ValueRange
+range_parts column_type = do
+  ends ← field (number 1) (λ byte. present (ends_of_byte byte) BadFile)
+  from ← end_value column_type ends.from
+  to ← end_value column_type ends.to
+  done (record { from = from; to = to })
+
+-- a range, whose first end is not behind the second; where it is, the fault is at its first byte
+abbrev pub allowed_range : ColumnType → Reading ValueRange
+allowed_range column_type = field (range_parts column_type) (λ range. allowed (not (are_apart range.from range.to)) WrongValue range)
+
+-- what a rule of a form demands of the values in a column of a type
+abbrev pub demanded : ColumnType → DemandForm → Reading Demand
+demanded column_type forms.Unique = done Unique
+demanded column_type forms.Required = done Required
+demanded column_type forms.OneOf = do
+  allowed ← allowed_values column_type
+  done (OneOf allowed)
+demanded column_type forms.InRange = do
+  range ← allowed_range column_type
+  done (InRange range)
+
+-- a distance, in thousandths of a grid step
+abbrev pub distance : Reading ℕ
+distance = field (number 8) (λ n. allowed (nat_lt n reach_limit) BadFile n)
+
 -- what a rule says, behind its form: of layers of the file, or of a column of one of them
 abbrev pub said : Content → RuleForm → Reading Says
 said content (Between form) = do
   first ← field name (known_layer_name content)
   asked ← ask
   second ← field name (known_layer_name content)
-  done (OfLayers (record { form = form; first = first; ask = asked; second = second }))
-said content (OnValues demand) = do
+  done (OfLayers (record { form = form; first = first; ask = Matrix asked; second = second }))
+said content (ByDistance form) = do
+  first ← field name (known_layer_name content)
+  reach ← distance
+  second ← field name (known_layer_name content)
+  done (OfLayers (record { form = form; first = first; ask = Near reach; second = second }))
+said content (OnValues form) = do
   layer ← field name (known_layer_name content)
-  column ← field name (known_column_name content layer)
-  done (OfValues (record { demand = demand; layer = layer; column = column }))
+  column ← field name (known_column content layer)
+  demand ← demanded column.1 form
+  done (OfValues (record { demand = demand; layer = layer; column = column.0 }))
 
 -- a rule behind its name
 abbrev pub rule : Version → Content → List Rule → Reading Rule

@@ -13,7 +13,7 @@ use Rattle.sf_wkb.specs.Words.{IsIn}
 use Rattle.sf_features.specs.Names.{is_name}
 use Rattle.sf_layers.specs.Content.{Content}
 use Rattle.sf_layers.specs.WellFormed.{IsWellFormed}
-use Rattle.sf_ruled_store.specs.Ruling.{HasNineLetters}
+use Rattle.sf_ruled_store.specs.Ruling.{IsPairAsk, Matrix, Near, PairAsk}
 use Rattle.sf_ruled_store.specs.Ruling.{Rule, Says, OfLayers, OfValues}
 use Rattle.sf_ruled_store.specs.Ruling.{AllHold}
 use Rattle.sf_ruled_store.specs.Ruled.{Ruled}
@@ -27,15 +27,15 @@ use Rattle.sf_format.specs.Canonical.{canonical, canonical_ruled, first_canonica
 
 -- ---- rules
 
--- a rule between layers asks for nine letters where it asks for a pattern
-abbrev pub AsksForNine : Says → Type 0
-AsksForNine (OfLayers rule) = HasNineLetters rule.ask
-AsksForNine (OfValues rule) = Unit {0}
+-- a rule between layers asks for nine letters where it asks for a pattern, and for a distance below the limit where it asks for one
+abbrev pub AsksWell : Says → Type 0
+AsksWell (OfLayers rule) = IsPairAsk rule.ask
+AsksWell (OfValues rule) = Unit {0}
 
--- a rule has a name, and asks for nine letters where it asks for a pattern
+-- a rule has a name, and asks for what can be asked
 pub record IsRule (rule : Rule) : Type 0 where
   pub named : IsTrue (is_name rule.name)
-  pub nine : AsksForNine rule.says
+  pub asks : AsksWell rule.says
 
 -- a content with rules is well formed: so is the content; all that the rules name is there, and they hold; no two have one name,
 -- and there are not too many
@@ -103,15 +103,20 @@ FirstCanonicalBytesLoad = (content : Content) → IsWellFormed content → AreIn
 abbrev pub SecondCanonicalBytesLoad : Type 0
 SecondCanonicalBytesLoad = (content : Content) → IsWellFormed content → AreIn Bits24 content → content_of (second_canonical content) ≡ Ok content
 
--- a rule is one between layers
+-- what is asked of two features is their matrix
+abbrev pub IsOfMatrices : PairAsk → Type 0
+IsOfMatrices (Matrix ask) = Unit {0}
+IsOfMatrices (Near reach) = ⊥
+
+-- a rule is one between layers that asks for a matrix
 abbrev pub IsSaidOfLayers : Says → Type 0
-IsSaidOfLayers (OfLayers rule) = Unit {0}
+IsSaidOfLayers (OfLayers rule) = IsOfMatrices rule.ask
 IsSaidOfLayers (OfValues rule) = ⊥
 
 abbrev pub IsOfLayers : Rule → Type 0
 IsOfLayers rule = IsSaidOfLayers rule.says
 
--- and those that the third version has for such a content with rules, all of them between layers
+-- and those that the third version has for such a content with rules, all of them between layers, by matrices
 abbrev pub ThirdCanonicalBytesLoad : Type 0
 ThirdCanonicalBytesLoad =
     (ruled : Ruled) → IsRuledWell ruled → AllByRecursion IsOfLayers ruled.rules → AreIn Bits24 ruled.content → ruled_content_of (third_canonical ruled) ≡ Ok ruled

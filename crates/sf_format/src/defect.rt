@@ -27,8 +27,8 @@ pub enum Defect {
     NoColumn,
     /// An earlier column of the layer has the name.
     ColumnExists,
-    /// The byte is of no type of a column, or the text is too long, no UTF-8 or has a control
-    /// character.
+    /// The byte is of no type of a column, the bytes are of no value of the type, or what a rule names doesn't fit its column: no
+    /// value or more than 1,000, one that may not stand there, or a range whose first end is behind the second.
     WrongValue,
     /// The byte is of no kind of a layer, or the geometry isn't of its layer's kind.
     WrongKind,
@@ -38,8 +38,8 @@ pub enum Defect {
     /// A column number is 0, used before or not below the layer's next one, or these are too few for
     /// the columns.
     ColumnsExhausted,
-    /// The first eight bytes aren't those of a file of a store, the byte of the grid isn't that of their version, or the byte is of no form of a
-    /// rule that files of the version have.
+    /// The first eight bytes aren't those of a file of a store, the byte of the grid isn't that of their version, the byte is of no form of a
+    /// rule that files of the version have, or says of no end of a range that it is given.
     BadFile,
     /// No layer of the file has the name.
     NoLayer,

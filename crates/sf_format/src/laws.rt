@@ -56,7 +56,7 @@ pub fn second_canonical_bytes_load()
     ensures { SecondCanonicalBytesLoad }
 {}
 
-/// The bytes that the third version has for a content with rules between layers whose points are of 24 bits load as it.
+/// The bytes that the third version has for a content with rules between layers, by matrices, whose points are of 24 bits load as it.
 pub fn third_canonical_bytes_load()
     ensures { ThirdCanonicalBytesLoad }
 {}

@@ -4,13 +4,15 @@
 
 mod defect;
 pub mod laws;
+mod range_ends;
 mod rule_form;
 mod version;
 
 pub use defect::Defect;
-pub use rule_form::RuleForm;
+pub use range_ends::RangeEnds;
+pub use rule_form::{DemandForm, RuleForm};
 pub use sf_ruled_store::{
-    Ask, Demand, Form, LayerRule, Refusal as StepRefusal, Rule, Ruled, Rules as KeptRules, Says,
-    ValueRule,
+    AllowedValues, Ask, Demand, Form, LayerRule, PairAsk, Refusal as StepRefusal, Rule, Ruled,
+    Rules as KeptRules, Says, VALUES_MAX, ValueRule,
 };
 pub use version::Version;

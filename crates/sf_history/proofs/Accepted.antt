@@ -37,7 +37,11 @@ left-by f (inr c) = inr c
 
 pub step-refused : (editor : ℕ) (old : Machine) (step : Step) (refusal : StepRefusal) → IsRefusedAs (ruled_step (ruled_now old) step) refusal
     → (stepped editor old step ≡ Err refusal) ⊎ (refusal ≡ Memory)
-step-refused editor old step refusal h = left-by (λ is. ap (after_step editor old) is) (refused-as (ruled_step (ruled_now old) step) refusal h)
+step-refused editor old step refusal h = by (refused-as (ruled_step (ruled_now old) step) refusal h)
+  where
+    by : (ruled_step (ruled_now old) step ≡ Err refusal) ⊎ (refusal ≡ Memory) → (stepped editor old step ≡ Err refusal) ⊎ (refusal ≡ Memory)
+    by (inl is) = inl (ap (after_step editor old) is)
+    by (inr want) = inr want
 
 pub edit-refused : (editor : ℕ) (old : Machine) (edit : Edit) (refusal : StepRefusal) → IsRefusedAs (ruled_step (ruled_now old) (OfChange (OfEdit edit))) refusal
     → (edited editor old edit ≡ Err refusal) ⊎ (refusal ≡ Memory)

@@ -7,5 +7,6 @@ pub mod laws;
 pub use editor::{Depths, Editor};
 pub use sf_refusals::Refusal;
 pub use sf_ruled_store::{
-    Break, Demand, Form, LayerRule, Refusal as StepRefusal, Rule, Rules, Says, ValueRule,
+    AllowedValues, Break, Demand, Form, LayerRule, Refusal as StepRefusal, Rule, Rules, Says,
+    VALUES_MAX, ValueRule,
 };

@@ -11,9 +11,17 @@ use Rattle.sf_known.specs.declared.predicate.Predicate.TheVariants.{Equals, Disj
 use Rattle.sf_known.specs.Predicates.{is_like, crosses, overlaps, touches, holds}
 use Rattle.sf_known.specs.Transposed.{transposed}
 use Rattle.sf_prepared.proofs.TransposedLaws.{matrices_are_transposed}
-use Rattle.sf_query.specs.declared.ask.Ask.TheVariants.{Matching, Named}
-use Rattle.sf_query.specs.Answers.{dim_of_geometry}
-use Rattle.sf_joins.specs.Converse.{converse_predicate, AsksTurnRound}
+use Rattle.sf_near.specs.Passed.{Matching, Named}
+use Rattle.sf_near.specs.Passed.{dim_of_geometry}
+use Rattle.sf_joins.specs.Converse.{converse_predicate, AsksTurnRound, PairsTurnRound}
+use Rattle.std.specs.List.{list_any}
+use Rattle.std.proofs.lemmas.Bool.{both_ways, false_from_ne_true}
+use Rattle.sf_geometry.specs.declared.geometry.Geometry.{Geometry}
+use Rattle.sf_known.specs.Patterns.{has_contact, is_filled}
+use Rattle.sf_near.specs.Passed.{square_of_reach}
+use Rattle.sf_near.proofs.Passed.{within-turns}
+use Rattle.sf_near.specs.Answers.{is_within_of}
+use Rattle.sf_near.specs.declared.pair_ask.PairAsk.TheVariants.{Matrix, Near}
 
 -- two of several tests change places
 and_swap : (a b c : Bool) → a && (b && c) ≡ b && (a && c)
@@ -148,3 +156,32 @@ asks-turn-round (Named predicate) a b nine =
     let e : ℕ → Dim = λ n. entry n (matrix_of a b) in
     holds-turned (e 0) (e 1) (e 2) (e 3) (e 4) (e 5) (e 6) (e 7) (e 8) predicate (dim_of_geometry a) (dim_of_geometry b)
     ∙ ap (holds (converse_predicate predicate) (dim_of_geometry b) (dim_of_geometry a)) (sym (matrices_are_transposed a b))
+
+-- ---- what is asked of two features
+
+-- whether two share a point doesn't hang on their order
+contact-turned : (a b : Geometry) → has_contact (matrix_of a b) ≡ has_contact (matrix_of b a)
+contact-turned a b =
+    let e : ℕ → Dim = λ n. entry n (matrix_of a b) in
+    contacts (e 0) (e 1) (e 2) (e 3) (e 4) (e 5) (e 6) (e 7) (e 8) ∙ ap has_contact (sym (matrices_are_transposed a b))
+  where
+    contacts : (m1 m2 m3 m4 m5 m6 m7 m8 m9 : Dim)
+        → has_contact (m1 ∷ m2 ∷ m3 ∷ m4 ∷ m5 ∷ m6 ∷ m7 ∷ m8 ∷ m9 ∷ []) ≡ has_contact (m1 ∷ m4 ∷ m7 ∷ m2 ∷ m5 ∷ m8 ∷ m3 ∷ m6 ∷ m9 ∷ [])
+    contacts m1 m2 m3 m4 m5 m6 m7 m8 m9 = ap (λ x. is_filled m1 || x) (swap (is_filled m2) (is_filled m4) (is_filled m5 || false))
+      where
+        swap : (x y z : Bool) → x || (y || z) ≡ y || (x || z)
+        swap true true z = refl
+        swap true false z = refl
+        swap false true z = refl
+        swap false false z = refl
+
+same-test : (x y : Bool) → (x ≡ true → y ≡ true) → (y ≡ true → x ≡ true) → x ≡ y
+same-test true y h k = sym (h refl)
+same-test false y h k = sym (false_from_ne_true y (λ t. both_ways false refl (k t)))
+
+pub pairs-turn-round : PairsTurnRound
+pairs-turn-round (Matrix ask) a b kept = asks-turn-round ask a b kept
+pairs-turn-round (Near reach) a b kept =
+    same-test (is_within_of (square_of_reach reach) a b) (is_within_of (square_of_reach reach) b a)
+    (within-turns a b (square_of_reach reach) (contact-turned a b))
+    (within-turns b a (square_of_reach reach) (contact-turned b a))

@@ -4,20 +4,21 @@
 ghost use Rattle.std.specs.Prelude.{◌≡◌, ◌++◌, bytes_eq, filter, map, IfOk, OnOk};
 ghost use Rattle.sf_layers.specs.Content.{layer_of};
 ghost use Rattle.sf_layers.specs.WellFormed.{IsLayer};
-ghost use Rattle.sf_query.specs.Answers.{ids_found};
+ghost use Rattle.sf_near.specs.Pairs.{ids_asked as ids_asked_of};
 ghost use Rattle.sf_joins.specs.Joins.{are_distinct as are_distinct_of, pairs_found};
 ghost use Rattle.sf_joins.specs.Replies.{IsBeside, IsJoin};
 
 use super::joined::{Beside, Joined};
-use super::turning::converse;
+use super::turning::converse_pair;
 use sf_layers::{Layer, Store};
-use sf_query::{Ask, Refusal, features_asked};
+use sf_near::{PairAsk, Refusal, ids_asked};
 use sf_validity::Valid;
 use std::alloc::{AllocError, Global};
 
-/// The pairs of distinct features, one of each layer, whose matrix is as asked: the feature of the first layer is the first
-/// geometry. Features of one layer are distinct where their identifiers differ. It takes memory for the pairs, and for
-/// what is made of one feature at a time; where the ask needs contact, time by the pairs whose boxes meet.
+/// The pairs of distinct features, one of each layer, whose matrix or distance is as asked: the feature of the first layer is the
+/// first geometry. Features of one layer are distinct where their identifiers differ. It takes memory for the pairs, and for
+/// what is made of one feature at a time; where the ask needs contact, time by the pairs whose boxes meet, and where it asks for
+/// what is near, by those whose boxes are.
 ///
 /// # Errors
 ///
@@ -26,7 +27,7 @@ pub fn join(
     alloc: Global,
     store: &Store,
     first: &str,
-    ask: &Ask,
+    ask: &PairAsk,
     second: &str,
 ) -> Result<Joined, Refusal>
     ensures { IsJoin (bytes_eq first.now second.now) (layer_of store.now first.now) ask.now
@@ -53,7 +54,7 @@ pub fn join_one(
     alloc: Global,
     store: &Store,
     first: &str,
-    ask: &Ask,
+    ask: &PairAsk,
     second: &str,
     id: u32,
 ) -> Result<Beside, Refusal>
@@ -70,8 +71,8 @@ pub fn join_one(
     let Some(feature) = other.feature(id) else {
         return Err(Refusal::NoFeature);
     };
-    let found = features_asked(alloc, own, ask, feature.valid())?;
-    let ids = without(alloc, found.ids.as_slice(), one, id)?;
+    let found = ids_asked(alloc, own, ask, feature.valid())?;
+    let ids = without(alloc, found.as_slice(), one, id)?;
     Ok(Beside { ids })
 }
 
@@ -79,14 +80,14 @@ pub fn join_one(
 fn pairs_of(
     alloc: Global,
     first: &Layer,
-    ask: &Ask,
+    ask: &PairAsk,
     second: &Layer,
     one: bool,
 ) -> Result<Vec<(u32, u32)>, AllocError>
     requires { IsLayer second.now }
     ensures { IfOk result (λ pairs. pairs.items ≡ pairs_found one first.now ask.now second.now) }
 {
-    let converse = converse(ask);
+    let converse = converse_pair(ask);
     let mut pairs = Vec::new(alloc);
     for (id, feature) in first.features() {
         push_pairs(
@@ -108,16 +109,16 @@ fn push_pairs(
     pairs: &mut Vec<(u32, u32)>,
     id: u32,
     valid: &Valid,
-    converse: &Ask,
+    converse: &PairAsk,
     second: &Layer,
     one: bool,
 ) -> Result<(), AllocError>
     requires { IsLayer second.now }
     ensures { OnOk result (pairs.new.items ≡ pairs.old.items
-        ++ map (λ other. (id, other)) (filter (are_distinct_of one id) (ids_found second.now converse.now valid.now))) }
+        ++ map (λ other. (id, other)) (filter (are_distinct_of one id) (ids_asked_of second.now converse.now valid.now))) }
 {
-    let found = features_asked(alloc, second, converse, valid)?;
-    for other in found.ids.as_slice() {
+    let found = ids_asked(alloc, second, converse, valid)?;
+    for other in found.as_slice() {
         if are_distinct(one, id, *other) {
             pairs.push((id, *other))?;
         }

@@ -1,6 +1,6 @@
 //! Laws of joins, each the contract of a function that does nothing.
 
-ghost use Rattle.sf_joins.specs.Converse.{AsksTurnRound};
+ghost use Rattle.sf_joins.specs.Converse.{AsksTurnRound, PairsTurnRound};
 ghost use Rattle.sf_joins.specs.Joins.{BesideIsOverThePlane, JoinsAreOverThePlane};
 
 /// An ask holds of two geometries where its converse holds of them the other way round.
@@ -8,7 +8,12 @@ pub fn asks_turn_round()
     ensures { AsksTurnRound }
 {}
 
-/// The pairs that are computed are just those of features whose matrix over the plane is as asked.
+/// What is asked of two features holds of two geometries where its converse holds of them the other way round.
+pub fn pairs_turn_round()
+    ensures { PairsTurnRound }
+{}
+
+/// The pairs that are computed are just those of features that are as asked over the plane.
 pub fn joins_are_over_the_plane()
     ensures { JoinsAreOverThePlane }
 {}

@@ -1,4 +1,4 @@
-//! Joins: the pairs of features of two layers whose matrix is as asked.
+//! Joins: the pairs of features of two layers whose matrix or distance is as asked.
 #![tactic(auto)]
 
 mod joined;
@@ -8,4 +8,5 @@ mod turning;
 
 pub use joined::{Beside, Joined};
 pub use joining::{join, join_one};
-pub use turning::converse;
+pub use sf_near::{Ask, PairAsk, ids_asked, ids_asked_behind};
+pub use turning::{converse, converse_pair};

@@ -1,9 +1,9 @@
 //! Asks of two geometries the other way round.
 
 ghost use Rattle.std.specs.Prelude.{◌≡◌};
-ghost use Rattle.sf_joins.specs.Converse.{HasNineLetters, converse as converse_of, converse_predicate as converse_predicate_of};
+ghost use Rattle.sf_joins.specs.Converse.{HasNineLetters, IsPairAsk, converse as converse_of, converse_pair as converse_pair_of, converse_predicate as converse_predicate_of};
 
-use sf_query::Ask;
+use sf_near::{Ask, PairAsk};
 use sf_relate::Predicate;
 
 /// What is asked of the second geometry with the first where this is asked of the first with the second.
@@ -14,6 +14,21 @@ pub fn converse(ask: &Ask) -> Ask
     match ask {
         Ask::Matching(pattern) => Ask::Matching(pattern.transposed()),
         Ask::Named(predicate) => Ask::Named(converse_predicate(*predicate)),
+    }
+}
+
+/// The same of what is asked of two features.
+pub fn converse_pair(ask: &PairAsk) -> PairAsk
+    ensures turned { result ≡ converse_pair_of ask.now }
+    ensures kept { IsPairAsk ask.now }
+{
+    match ask {
+        PairAsk::Matrix(ask) => PairAsk::Matrix(converse(ask)),
+        PairAsk::Near(reach) => {
+            // What holds of every distance is known of this one once it is read.
+            let _ = reach.thousandths();
+            PairAsk::Near(*reach)
+        }
     }
 }
 

@@ -80,7 +80,7 @@ fn carry_out_command(alloc: Global, editor: &mut Editor, asker: u8, command: Com
             Err(refusal) if wants_memory(&refusal) => Outcome::Told(Err(Refusal::Memory)),
             Err(refusal) => Outcome::Told(refused_by_rules(alloc, editor.rules(), refusal)),
         },
-        Command::AddRule(rule) => match editor.add_rule_as(alloc, asker, rule) {
+        Command::AddRule(rule) => match editor.add_rule_as(alloc, asker, rule.into_rule()) {
             Ok(()) => Outcome::Changed(Answer::Done),
             Err((_, refusal)) if wants_memory(&refusal) => Outcome::Told(Err(Refusal::Memory)),
             Err((rule, refusal)) => {

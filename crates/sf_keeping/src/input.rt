@@ -1,7 +1,7 @@
 //! What was read last, line by line.
-ghost use Rattle.std.specs.Prelude.{◌≡◌, [], true, false, IfOk, OnOk, OnErr, option_copied};
+ghost use Rattle.std.specs.Prelude.{◌≡◌, [], true, false, IfOk, OnOk, OnErr};
 ghost use Rattle.std.specs.Io.KnownBytes.{Consumes, IsAtEnd, Keeps};
-ghost use Rattle.sf_text_lines.specs.Buffers.{nothing_buffered, line_buffered};
+ghost use Rattle.sf_text_lines.specs.Buffers.{nothing_buffered};
 ghost use Rattle.sf_keeping.specs.Inputs.{Ahead, EndsLine, GoesOn, with_new_line};
 
 use sf_streams::{Chunk, ReadFault};

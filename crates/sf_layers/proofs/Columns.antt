@@ -1,5 +1,5 @@
 -- A column taken out of a layer with its values, and put back.
-use Rattle.std.proofs.Common.{◌≡◌, ℕ, suc, ◌+◌, Bool, true, false, not, cond, List, [], ◌∷◌, map, find, slice_get, Some, bytes_eq, ap, ◌∙◌, arith}
+use Rattle.std.proofs.Common.{◌≡◌, ℕ, suc, ◌+◌, Bool, true, false, not, cond, List, [], ◌∷◌, map, find, slice_get, Option, None, Some, is_some, bytes_eq, refl, ap, ◌∙◌, arith}
 use Rattle.std.specs.List.{position_or_len}
 use Rattle.std.specs.Map.{values_of}
 use Rattle.sf_features.specs.declared.column.Column.{Column}
@@ -25,6 +25,15 @@ column_at_place-of (c ∷ cs) name column found = by (column_at_place-of cs name
 
 pub column_at_place : (layer : LayerContent) (name : List ℕ) (column : Column) → column_named layer name ≡ Some column → slice_get layer.columns (column_place layer name) ≡ Some column
 column_at_place layer name column found = column_at_place-of layer.columns name column found
+
+-- what stands at the place of a name is the column of that name
+pub column-at : (layer : LayerContent) (name : List ℕ) (place : ℕ) (o : Option Column) → place ≡ column_place layer name → true ≡ is_some (column_named layer name)
+    → o ≡ slice_get layer.columns place → o ≡ column_named layer name
+column-at layer name place o at stands is = by (column_named layer name) refl stands
+  where
+    by : (found : Option Column) → column_named layer name ≡ found → true ≡ is_some found → o ≡ found
+    by None k h = cc
+    by (Some column) k h = is ∙ ap (slice_get layer.columns) at ∙ column_at_place layer name column k
 
 -- a column is put back at its place, with its values
 pub column-back : (layer : LayerContent) (name : List ℕ) (column : Column) → IsLayer layer → column_named layer name ≡ Some column

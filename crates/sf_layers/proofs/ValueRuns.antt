@@ -21,9 +21,9 @@ use Rattle.sf_features.specs.Order.{value_cmp}
 use Rattle.sf_features.specs.Values.{same_value}
 use Rattle.sf_features.proofs.SameLaws.{same-value}
 use Rattle.sf_features.proofs.ValueTotal.{values_total}
-use Rattle.sf_layers.specs.Found.{is_between, is_from, is_up_to}
+use Rattle.sf_layers.specs.Found.{are_apart, is_between, is_from, is_up_to}
 use Rattle.sf_layers.specs.KeyOrder.{keys_total}
-use Rattle.sf_layers.specs.ValueIndexes.{AreListed, HasEach, HasRun, Indexes, Lists, Pairs, are_apart, end_at, id_max, key, key_cmp, start_at}
+use Rattle.sf_layers.specs.ValueIndexes.{AreListed, HasEach, HasRun, Indexes, Lists, Pairs, end_at, id_max, key, key_cmp, start_at}
 use Rattle.sf_layers.specs.declared.value_key.ValueKey.{ValueKey}
 
 pub IfOk-map : {T E : Type 0} (P Q : T → Type 0) (r : Result T E) → ((x : T) → P x → Q x) → IfOk r P → IfOk r Q

@@ -1,8 +1,8 @@
 -- Which features of a layer have a value that is asked for: one value, or any between two ends.
-use Rattle.std.specs.Prelude.{ℕ, Bool, true, false, ◌&&◌, List, filter, Option}
+use Rattle.std.specs.Prelude.{ℕ, Bool, true, false, ◌&&◌, List, filter, Option, Some}
 use Rattle.std.specs.Map.{keys_of}
 use Rattle.std.specs.Option.{option_map_or}
-use Rattle.std.specs.Ordering.{is_le}
+use Rattle.std.specs.Ordering.{is_gt, is_le}
 use Rattle.sf_features.specs.declared.attr_value.AttrValue.{AttrValue}
 use Rattle.sf_features.specs.Features.{FeatureContent, value_in}
 use Rattle.sf_features.specs.Order.{value_cmp}
@@ -36,3 +36,8 @@ is_between from to value = is_from from value && is_up_to to value
 -- the identifiers of the features that have a value between two ends in the column of a number
 abbrev pub ids_between : ℕ → Option AttrValue → Option AttrValue → LayerContent → List ℕ
 ids_between number from to layer = ids_where (is_between from to) number layer
+
+-- whether nothing is between two ends, as the first is behind the second
+abbrev pub are_apart : Option AttrValue → Option AttrValue → Bool
+are_apart (Some from) (Some to) = is_gt (value_cmp from to)
+are_apart from to = false

@@ -6,7 +6,7 @@ use Rattle.std.specs.BTreeMap.Range.{range_contains}
 use Rattle.std.specs.List.{AllByRecursion, Contains, list_any}
 use Rattle.std.specs.List.Sorted.{IsStrictlySortedBy}
 use Rattle.std.specs.Map.{lookup}
-use Rattle.std.specs.Ordering.{is_gt, nat_cmp, on, then_cmp}
+use Rattle.std.specs.Ordering.{nat_cmp, on, then_cmp}
 use Rattle.std.specs.declared.ops.Bound.{Bound}
 use Rattle.std.specs.declared.ops.Bound.TheVariants.{Included, Unbounded}
 use Rattle.std.specs.declared.cmp.Ordering.{Ordering}
@@ -93,8 +93,3 @@ start_at (Some value) = Included (key value 0)
 abbrev pub end_at : Option AttrValue → Bound ValueKey
 end_at None = Unbounded
 end_at (Some value) = Included (key value id_max)
-
--- whether nothing is between two ends, as the first is behind the second
-abbrev pub are_apart : Option AttrValue → Option AttrValue → Bool
-are_apart (Some from) (Some to) = is_gt (value_cmp from to)
-are_apart from to = false

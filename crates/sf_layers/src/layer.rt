@@ -187,6 +187,16 @@ impl Layer {
         self.columns.at(place)
     }
 
+    /// The column of a name, or None where the layer has none.
+    pub fn column(&self, name: &str) -> Option<&Column>
+        ensures { option_copied result ≡ column_named self.now name.now }
+    {
+        match self.column_place(name) {
+            Some(place) => self.column_at(place),
+            None => None,
+        }
+    }
+
     /// The place of the column of a name in the order, or None where no column has it.
     pub fn column_place(&self, name: &str) -> Option<usize>
         ensures there { IfSome result (λ place. place ≡ column_place self.now name.now) }
@@ -288,7 +298,8 @@ impl Layer {
         ensures unchanged { OnErr result (self.new ≡ self.old) }
     {
         let extent = extent_of(&feature);
-        self.values.note_all(alloc, id, feature.values());
+        let count = self.features.len();
+        self.values.note_all(alloc, count, id, feature.values());
         insert_feature(&mut self.features, id, feature)?;
         put_box(alloc, &mut self.index, id, extent);
         Ok(())
@@ -442,7 +453,8 @@ impl Layer {
         ensures none { OnErr result
             (IsSomeAnd (feature_of self.old id) (λ feature. value_in number feature ≡ None)) }
     {
-        self.values.note(alloc, id, number, &value);
+        let count = self.features.len();
+        self.values.note(alloc, count, id, number, &value);
         match self.features.get_mut(&id) {
             Some(feature) => feature.put_value(number, value),
             None => unreachable!(),
@@ -522,12 +534,13 @@ impl Layer {
             × FnOnceReturnsAtMut F.FnOnce change before result after
             × (self.new ≡ change_feature id (λ _. after) self.old) }
     {
+        let count = self.features.len();
         match self.features.get_mut(&id) {
             Some(feature) => {
                 let before = extent_of(feature);
                 let given = change(feature);
                 move_box(alloc, &mut self.index, id, before, extent_of(feature));
-                self.values.note_all(alloc, id, feature.values());
+                self.values.note_all(alloc, count, id, feature.values());
                 given
             }
             None => unreachable!(),

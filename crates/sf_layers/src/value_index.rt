@@ -6,8 +6,8 @@ ghost use Rattle.std.specs.Ordering.{nat_cmp};
 ghost use Rattle.std.specs.List.{Contains};
 ghost use Rattle.std.specs.Bound.{IsForward};
 ghost use Rattle.sf_features.specs.Values.{same_value};
-ghost use Rattle.sf_layers.specs.Found.{is_between};
-ghost use Rattle.sf_layers.specs.ValueIndexes.{Grows, HasAll, HasPair, HasRun, HasThose, Lists, are_apart as are_apart_of, end_at, key_cmp, start_at};
+ghost use Rattle.sf_layers.specs.Found.{are_apart as are_apart_of, is_between};
+ghost use Rattle.sf_layers.specs.ValueIndexes.{Grows, HasAll, HasPair, HasRun, HasThose, Lists, end_at, key_cmp, start_at};
 
 use super::value_key::ValueKey;
 use sf_features::{AttrValue, Feature};
@@ -21,8 +21,6 @@ use std::ops::Bound;
 #[derive(Drop)]
 pub(crate) struct ValueIndex {
     pairs: BTreeSet<ValueKey>,
-    // Half as many pairs as it may have.
-    room: usize,
 }
 
 impl Model for ValueIndex {
@@ -44,7 +42,6 @@ impl ValueIndex {
     {
         let mut index = ValueIndex {
             pairs: BTreeSet::new(alloc),
-            room: features.len() + 512,
         };
         for (id, feature) in features.iter() {
             index.add_from(alloc, *id, feature, number)?;
@@ -84,13 +81,13 @@ impl ValueIndex {
     }
 
     /// Adds a pair, and says whether the index is to be kept: not where memory is out, nor where most of its pairs are of
-    /// values that are there no more.
-    pub(crate) fn note(&mut self, alloc: Global, id: u32, value: &AttrValue) -> bool
+    /// values that are there no more, as its layer has a count of features.
+    pub(crate) fn note(&mut self, alloc: Global, count: usize, id: u32, value: &AttrValue) -> bool
         ensures has { IsTrue result → HasPair self.new value.now id }
         ensures kept { Grows self.old self.new }
     {
         match self.add(alloc, id, value) {
-            Ok(()) => self.pairs.len() / 2 <= self.room,
+            Ok(()) => self.pairs.len() / 2 <= count.saturating_add(512),
             Err(_) => false,
         }
     }
@@ -148,7 +145,7 @@ impl ValueIndex {
     }
 
     // The identifiers of the pairs between two bounds, in the order of the pairs, unless there is more than one for sixteen
-    // features. To find these features takes longer then than to look at each.
+    // pairs. To find these features takes longer then than to look at each.
     fn run(
         &self,
         alloc: Global,
@@ -159,9 +156,10 @@ impl ValueIndex {
         ensures { IfOk result (λ found. IfSome found (λ ids. ids.items
             ≡ map (λ pair. pair.id) (filter (range_contains key_cmp start end) self.now))) }
     {
+        let most = self.pairs.len() / 16 + 32;
         let mut ids = Vec::new(alloc);
         for pair in self.pairs.range((start, end)) {
-            if ids.len() > self.room / 16 {
+            if ids.len() > most {
                 return Ok(None);
             }
             ids.push(pair.id)?;
@@ -191,7 +189,7 @@ fn end_of(alloc: Global, to: &Option<AttrValue>) -> Result<Bound<ValueKey>, Allo
 }
 
 // Whether the first of two ends is behind the second.
-fn are_apart(from: &Option<AttrValue>, to: &Option<AttrValue>) -> bool
+pub(crate) fn are_apart(from: &Option<AttrValue>, to: &Option<AttrValue>) -> bool
     ensures { result ≡ are_apart_of from.now to.now }
 {
     match (from, to) {

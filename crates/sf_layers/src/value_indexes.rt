@@ -98,45 +98,59 @@ impl ValueIndexes {
         let _ = self.columns.remove(&number);
     }
 
-    /// Adds a feature's value to the index of its column, if there is one.
-    pub(crate) fn note(&mut self, alloc: Global, id: u32, number: u16, value: &AttrValue)
+    /// Adds a feature's value to the index of its column, if there is one. The layer has a count of features: where most of an
+    /// index is of values that are there no more, it is given up.
+    pub(crate) fn note(
+        &mut self,
+        alloc: Global,
+        count: usize,
+        id: u32,
+        number: u16,
+        value: &AttrValue,
+    )
         ensures known { IsKnown self.new id number value.now }
         ensures kept { AreKept self.old self.new }
     {
-        if !self.add(alloc, id, number, value) {
+        if !self.add(alloc, count, id, number, value) {
             self.forget(number);
         }
     }
 
     // The same, and whether the index is to be kept.
-    fn add(&mut self, alloc: Global, id: u32, number: u16, value: &AttrValue) -> bool
+    fn add(&mut self, alloc: Global, count: usize, id: u32, number: u16, value: &AttrValue) -> bool
         ensures known { IsTrue result → IsKnown self.new id number value.now }
         ensures kept { AreKept self.old self.new }
     {
         match self.columns.get_mut(&number) {
-            Some(index) => index.note(alloc, id, value),
+            Some(index) => index.note(alloc, count, id, value),
             None => true,
         }
     }
 
     /// Adds the values of a feature, by column number. Where there is no index, none of them is looked at.
-    pub(crate) fn note_all(&mut self, alloc: Global, id: u32, values: &[(u16, AttrValue)])
+    pub(crate) fn note_all(
+        &mut self,
+        alloc: Global,
+        count: usize,
+        id: u32,
+        values: &[(u16, AttrValue)],
+    )
         ensures known { AllByRecursion (λ entry. IsKnown self.new id entry.0 entry.1) values.now }
         ensures kept { AreKept self.old self.new }
     {
         if self.columns.is_empty() {
             return;
         }
-        self.note_each(alloc, id, values);
+        self.note_each(alloc, count, id, values);
     }
 
     // The same, one after the other.
-    fn note_each(&mut self, alloc: Global, id: u32, values: &[(u16, AttrValue)])
+    fn note_each(&mut self, alloc: Global, count: usize, id: u32, values: &[(u16, AttrValue)])
         ensures known { AllByRecursion (λ entry. IsKnown self.new id entry.0 entry.1) values.now }
         ensures kept { AreKept self.old self.new }
     {
         for (number, value) in values {
-            self.note(alloc, id, *number, value);
+            self.note(alloc, count, id, *number, value);
         }
     }
 }

@@ -10,15 +10,17 @@ use std::cmp::Ordering;
 
 /// A value with the identifier of a feature that has it or had it: what an index by values has. The order is that of the
 /// values, and of the identifiers where these are equal in order.
-#[derive(Drop)]
-pub(crate) struct ValueKey {
-    pub(crate) value: AttrValue,
-    pub(crate) id: u32,
+#[derive(Debug, Drop)]
+pub struct ValueKey {
+    /// The value.
+    pub value: AttrValue,
+    /// The feature's identifier.
+    pub id: u32,
 }
 
 impl ValueKey {
     /// A copy of the value with an identifier.
-    pub(crate) fn of(alloc: Global, value: &AttrValue, id: u32) -> Result<ValueKey, AllocError>
+    pub fn of(alloc: Global, value: &AttrValue, id: u32) -> Result<ValueKey, AllocError>
         ensures { IfOk result (λ pair. pair ≡ key value.now id) }
     {
         let value = value.copy(alloc)?;

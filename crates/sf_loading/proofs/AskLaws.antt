@@ -11,7 +11,8 @@ use Rattle.sf_known.specs.declared.letter.Letter.TheVariants as letters
 use Rattle.sf_known.specs.Patterns.{letter_of, letters_of, pattern_of}
 use Rattle.sf_format.specs.Stored.{Named}
 use Rattle.sf_format.specs.Readings.{done}
-use Rattle.sf_format.specs.Format.{asked_by, predicate_of_byte}
+use Rattle.sf_format.specs.declared.defect.Defect.TheVariants.{BadFile}
+use Rattle.sf_format.specs.Format.{allowed, asked_by, predicate_of_byte, present}
 
 -- another byte than 0 is that of a named predicate
 pub asked-other : (byte : ℕ) → 0 < byte → asked_by byte ≡ done (option_map Named (predicate_of_byte byte))
@@ -54,3 +55,8 @@ no-pattern text wrong = by_length (length text == 9)
     by_length : (b : Bool) → (if b then letters_of text else None) ≡ None
     by_length true = by (letters_of text) refl
     by_length false = refl
+
+-- a distance is present where it is below the limit
+pub allowed-present : (below : Bool) (n : ℕ) → allowed below BadFile n ≡ present (if below then Some n else None) BadFile
+allowed-present true n = refl
+allowed-present false n = refl

@@ -5,15 +5,17 @@ use Rattle.std.proofs.lemmas.Bool.{ltb-true}
 use Rattle.sf_features.specs.Names.{is_name}
 use Rattle.sf_features.specs.Columns.{named, numbered}
 use Rattle.sf_features.specs.declared.column.Column.{Column}
+use Rattle.sf_features.specs.declared.column_type.ColumnType.{ColumnType}
 use Rattle.sf_layers.specs.Content.{Content, has_layer, layer_of}
 use Rattle.sf_layers.specs.WellFormed.{IsIssued}
-use Rattle.sf_format.specs.Stored.{Rule, has_column_in, has_rule}
+use Rattle.sf_format.specs.Stored.{Rule, has_rule}
 use Rattle.sf_streams.specs.Streams.{Left}
 use Rattle.sf_streams.proofs.ReadingLaws.{at}
 use Rattle.sf_format.specs.declared.defect.Defect.{Defect}
-use Rattle.sf_format.specs.declared.defect.Defect.TheVariants.{BadName, ColumnExists, ColumnsExhausted, LayerExists, NoColumn, NoLayer, RuleExists}
+use Rattle.sf_format.specs.declared.defect.Defect.TheVariants.{BadName, ColumnExists, ColumnsExhausted, LayerExists, NoLayer, RuleExists}
 use Rattle.sf_format.specs.Readings.{Reads, Reading, and_then, field, judged, number, sized}
-use Rattle.sf_format.specs.Format.{allowed, fresh_column_name, fresh_layer_name, fresh_number, fresh_rule_name, known_column_name, known_layer_name, name}
+use Rattle.sf_format.specs.Format.{allowed, fresh_column_name, fresh_layer_name, fresh_number, fresh_rule_name, known_column, known_layer_name, name, type_in}
+use Rattle.sf_format.proofs.RulesLoaded.{column-told}
 use Rattle.sf_loading.specs.Streaming.{Takes}
 
 field-passed : {A B : Type 0} (read : Reading A) (rule : A → Result B Defect) (y : B) (left rest : Left) → field read rule left ≡ Ok (y, rest)
@@ -89,13 +91,12 @@ Takes-known_layer content text unread left old new a =
     let q = allowed-passed (has_layer content p.0) NoLayer p.0 text p.1 in
     ap (has_layer content) (sym q.1) ∙ q.0
 
--- a name that a column of a layer has
-pub Takes-known_column : (content : Content) (layer text : List ℕ) (unread left : Option (List ℕ)) (old new : Left) → Takes (field name (known_column_name content layer)) text unread left old new
-    → has_column_in text (layer_of content layer) ≡ true
-Takes-known_column content layer text unread left old new a =
-    let p = Takes-passed name (known_column_name content layer) text unread left old new a in
-    let q = allowed-passed (has_column_in p.0 (layer_of content layer)) NoColumn p.0 text p.1 in
-    ap (λ t. has_column_in t (layer_of content layer)) (sym q.1) ∙ q.0
+-- the name and the type of a column of a layer
+pub Takes-known_column : (content : Content) (layer : List ℕ) (column : List ℕ × ColumnType) (unread left : Option (List ℕ)) (old new : Left) → Takes (field name (known_column content layer)) column unread left old new
+    → type_in (layer_of content layer) column.0 ≡ Some column.1
+Takes-known_column content layer column unread left old new a =
+    let p = Takes-passed name (known_column content layer) column unread left old new a in
+    column-told content layer p.0 column p.1
 
 both : (a b : Bool) → (a && b) ≡ true → (a ≡ true) × (b ≡ true)
 both true true h = (refl, refl)

@@ -4,7 +4,7 @@ use Rattle.std.specs.Prelude.{is_some, nat_lt, if◌then◌else◌}
 use Rattle.std.proofs.lemmas.Bool.{lt-ltb}
 use Rattle.sf_features.specs.Names.{is_name}
 use Rattle.sf_layers.specs.Content.{Content, LayerContent, layer_of}
-use Rattle.sf_format.specs.Stored.{Break, IsRefusedAs, OfLayers, OfValues, Refusal, Rule, Ruled, Says, added, break_of, broken_or, has_column_in, has_layers_of, has_named, has_rule, has_said, rules_max, unless_broken, with_rule}
+use Rattle.sf_format.specs.Stored.{Break, IsRefusedAs, OfLayers, OfValues, Refusal, Rule, Ruled, Says, added, break_of, broken_or, fits_layer, has_columns_of, has_layers_of, has_named, has_rule, has_said, rules_max, unless_broken, with_rule}
 use Rattle.sf_format.specs.Stored.refusals as refusals
 use Rattle.sf_streams.specs.Streams.{Goes, Left}
 use Rattle.sf_streams.proofs.ReadingLaws.{Goes-nothing}
@@ -12,6 +12,7 @@ use Rattle.sf_format.specs.declared.version.Version.{Version}
 use Rattle.sf_format.specs.Readings.{Reading, done}
 use Rattle.sf_format.specs.declared.defect.Defect.TheVariants.{RuleBroken}
 use Rattle.sf_format.specs.Format.{allowed, rule, rules_in, unbroken}
+use Rattle.sf_format.proofs.NamedValues.{column-held}
 use Rattle.sf_loading.specs.declared.halt.Halt.{Halt}
 use Rattle.sf_loading.specs.declared.halt.Halt.TheVariants as halts
 use Rattle.sf_loading.specs.Kept.{CanBeAdded, GivesRule, halt_of}
@@ -23,22 +24,29 @@ layers-there : (content : Content) (title : List ℕ) (says : Says) → has_said
 layers-there content title (OfLayers r) there = there
 layers-there content title (OfValues r) there = by (layer_of content r.layer) there
   where
-    by : (o : Option LayerContent) → has_column_in r.column o ≡ true → is_some o ≡ true
+    by : (o : Option LayerContent) → fits_layer r o ≡ true → is_some o ≡ true
     by None h = absurd cc
     by (Some layer) h = refl
+
+-- and so is its column
+columns-there : (content : Content) (title : List ℕ) (says : Says) → has_said content says ≡ true → has_columns_of content (record { name = title; says = says }) ≡ true
+columns-there content title (OfLayers r) there = refl
+columns-there content title (OfValues r) there = column-held r (layer_of content r.layer) there
 
 -- where it can be added, it is, unless it is broken
 adds : (old : Ruled) (r : Rule) → CanBeAdded old r → length old.rules < rules_max → added old r ≡ unless_broken (with_rule old r) (broken_or (length old.rules) (break_of old.content r) None)
 adds old r can few =
     let last = unless_broken (with_rule old r) (broken_or (length old.rules) (break_of old.content r) None) in
-    let fifth : Result Ruled Refusal = if not (nat_lt (length old.rules) rules_max) then Err refusals.TooManyRules else last in
-    let fourth : Result Ruled Refusal = if not (has_named old.content r) then Err refusals.NoColumn else fifth in
+    let sixth : Result Ruled Refusal = if not (nat_lt (length old.rules) rules_max) then Err refusals.TooManyRules else last in
+    let fifth : Result Ruled Refusal = if not (has_named old.content r) then Err refusals.WrongValue else sixth in
+    let fourth : Result Ruled Refusal = if not (has_columns_of old.content r) then Err refusals.NoColumn else fifth in
     let third : Result Ruled Refusal = if not (has_layers_of old.content r) then Err refusals.NoLayer else fourth in
     let second : Result Ruled Refusal = if has_rule r.name old.rules then Err refusals.RuleExists else third in
     ap (λ b. if not b then Err refusals.BadName else second) can.named
     ∙ ap (λ b. if b then Err refusals.RuleExists else third) can.free
     ∙ ap (λ b. if not b then Err refusals.NoLayer else fourth) (layers-there old.content r.name r.says can.there)
-    ∙ ap (λ b. if not b then Err refusals.NoColumn else fifth) can.there
+    ∙ ap (λ b. if not b then Err refusals.NoColumn else fifth) (columns-there old.content r.name r.says can.there)
+    ∙ ap (λ b. if not b then Err refusals.WrongValue else sixth) can.there
     ∙ ap (λ b. if not b then Err refusals.TooManyRules else last) (lt-ltb (length old.rules) rules_max few)
 
 -- it was added
@@ -73,6 +81,7 @@ refused-judged old r place refusal halt can few refused is = subst (λ h. Judges
     by refusals.NoRule h = (refl, is-broken old r refusals.NoRule can few h)
     by refusals.RuleExists h = (refl, is-broken old r refusals.RuleExists can few h)
     by refusals.NoColumn h = (refl, is-broken old r refusals.NoColumn can few h)
+    by refusals.WrongValue h = (refl, is-broken old r refusals.WrongValue can few h)
     by refusals.ColumnRuled h = (refl, is-broken old r refusals.ColumnRuled can few h)
     by refusals.LayerRuled h = (refl, is-broken old r refusals.LayerRuled can few h)
     by refusals.BadName h = (refl, is-broken old r refusals.BadName can few h)

@@ -9,6 +9,7 @@ use Rattle.sf_loading.specs.declared.halt.Halt.{Halt}
 use Rattle.sf_loading.specs.declared.halt.Halt.TheVariants as halts
 use Rattle.sf_format.specs.Readings.{Fault, Reading, and_then, ◌>>=◌, done, bytes, judged, field, number, items}
 use Rattle.sf_streams.specs.Streams.{Left, AreLeft, ReadsAhead, Goes, without_front}
+use Rattle.sf_format.proofs.Promises.{Tells}
 use Rattle.sf_loading.specs.Streaming.{Takes, Finds, Ends, Reaches, Gives, Judges}
 use Rattle.sf_streams.proofs.ReadingLaws.{at, Goes-on}
 
@@ -196,3 +197,9 @@ Goes-step before read next x u1 u2 u3 first second third a b = Goes-on before (r
 pub Ends-step : {A B : Type 0} (before : Reading B) (read : Reading A) (next : A → Reading B) (halt : Halt) (u1 u2 u3 : Option (List ℕ)) (first second : Left)
     → Goes before (read >>= next) u1 u2 first second → Ends read u2 u3 second halt → Ends before u1 u3 first halt
 Ends-step before read next halt u1 u2 u3 first second a b = Ends-after before (read >>= next) halt u1 u2 u3 first second a (Ends-first read next halt u2 u3 second b)
+
+-- ---- what a value that was read is like
+
+-- what a reading tells of its values holds of one that was taken
+pub Takes-tells : {T : Type 0} (read : Reading T) (P : T → Type 0) (x : T) (unread left : Option (List ℕ)) (old new : Left) → Tells read P → Takes read x unread left old new → P x
+Takes-tells read P x unread left old new tells a = tells (at old.place (a.text ++ [])) x (at new.place []) (a.reads [])

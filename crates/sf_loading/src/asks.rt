@@ -2,12 +2,13 @@
 ghost use Rattle.std.specs.Prelude.{◌≡◌, ◌≤◌, length, option_map, take};
 ghost use Rattle.sf_known.specs.Patterns.{pattern_of};
 ghost use Rattle.sf_format.specs.Stored.{Matching, Named};
-ghost use Rattle.sf_format.specs.Format.{ask as read_ask, asked as read_asked, asked_by, predicate_of_byte};
+ghost use Rattle.sf_format.specs.Format.{ask as read_ask, asked as read_asked, asked_by, distance as read_distance, predicate_of_byte};
 ghost use Rattle.sf_loading.specs.Streaming.{Gives};
 
 use super::fields::present;
 use super::halt::Halt;
-use super::numbers::{number_u8, require};
+use super::numbers::{number_u8, number_u64, require};
+use sf_distance::Reach;
 use sf_format::{Ask, Defect};
 use sf_known::{Pattern, Predicate};
 use sf_streams::Window;
@@ -87,4 +88,14 @@ pub(crate) fn ask<R: Read>(window: &mut Window, reader: &mut R) -> Result<Ask, H
     let place = window.place();
     let asked = asked(window, reader)?;
     present(asked, place, Defect::BadPattern)
+}
+
+/// A distance that a rule asks about, in thousandths of a grid step.
+pub(crate) fn distance<R: Read>(window: &mut Window, reader: &mut R) -> Result<Reach, Halt>
+    ensures { Gives (λ reach. reach) read_distance (R.remaining reader.old) (R.remaining reader.new)
+        window.old window.new result }
+{
+    let place = window.place();
+    let thousandths = number_u64(window, reader)?;
+    present(Reach::of_thousandths(thousandths), place, Defect::BadFile)
 }

@@ -1,5 +1,5 @@
 //! The columns of a layer.
-ghost use Rattle.std.specs.Prelude.{◌≡◌, ◌&&◌, ◌≤◌, ℕ, None, [], not, is_some, length, nat_eq, nat_lt, IfOk, IsTrue, OnOk};
+ghost use Rattle.std.specs.Prelude.{◌≡◌, ◌&&◌, ◌≤◌, ℕ, None, [], not, is_some, nat_eq, nat_lt, IfOk, OnOk};
 ghost use Rattle.std.specs.BTreeMap.{insert_entry};
 ghost use Rattle.std.specs.Map.{lookup};
 ghost use Rattle.std.specs.Ordering.{nat_cmp};
@@ -116,7 +116,7 @@ fn type_of_byte(byte: u8) -> Option<ColumnType>
 }
 
 /// The type of a column.
-fn column_type<R: Read>(window: &mut Window, reader: &mut R) -> Result<ColumnType, Halt>
+pub(crate) fn column_type<R: Read>(window: &mut Window, reader: &mut R) -> Result<ColumnType, Halt>
     ensures { Gives (λ t. t) (field (number 1) (λ byte. present_of (type_of_byte_of byte) WrongValue))
         (R.remaining reader.old) (R.remaining reader.new) window.old window.new result }
 {

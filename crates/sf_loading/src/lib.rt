@@ -3,6 +3,7 @@
 
 mod asks;
 mod columns;
+mod demands;
 mod features;
 mod fields;
 mod geometries;

@@ -60,6 +60,16 @@ pub(crate) fn number_u32<R: Read>(window: &mut Window, reader: &mut R) -> Result
     Ok(n)
 }
 
+/// A number of eight bytes.
+pub(crate) fn number_u64<R: Read>(window: &mut Window, reader: &mut R) -> Result<u64, Halt>
+    ensures { Gives (λ n. n) (number 8) (R.remaining reader.old) (R.remaining reader.new) window.old window.new result }
+{
+    require(window, reader, 8)?;
+    let n = BigEndian::read_u64(window.front(8));
+    window.skip(8);
+    Ok(n)
+}
+
 /// A number of eight bytes in two's complement.
 pub(crate) fn number_i64<R: Read>(window: &mut Window, reader: &mut R) -> Result<i64, Halt>
     ensures { Gives (λ n. n) signed_number (R.remaining reader.old) (R.remaining reader.new) window.old window.new result }

@@ -1,20 +1,22 @@
 //! The rules of a store, each of which has to hold in it.
 ghost use Rattle.std.specs.Prelude.{◌≡◌, ◌<◌, [], length, true, IfOk, OnOk};
 ghost use Rattle.sf_format.specs.Stored.{has_said, rules_max, with_rule};
-ghost use Rattle.sf_format.specs.declared.rule_form.RuleForm.TheVariants.{Between, OnValues};
+ghost use Rattle.sf_format.specs.declared.rule_form.RuleForm.TheVariants.{Between, ByDistance, OnValues};
 ghost use Rattle.sf_format.specs.declared.defect.Defect.TheVariants.{BadFile};
 ghost use Rattle.sf_format.specs.Readings.{field, items, number};
 ghost use Rattle.sf_format.specs.Format.{any_form as any_form_of, form_between as form_between_of, form_of_byte as form_of_byte_of, held_rule as read_held_rule, present as present_of, rule as read_rule, rules as read_rules, rules_in, said as read_said, unbroken};
 ghost use Rattle.sf_loading.specs.Streaming.{Gives, Judges};
 ghost use Rattle.sf_loading.specs.Kept.{CanBeAdded, GivesRule, halt_of};
 
-use super::asks::ask;
+use super::asks::{ask, distance};
+use super::demands::demanded;
 use super::fields::present;
 use super::halt::Halt;
 use super::numbers::{number_u8, number_u16};
 use super::texts::{known_column, known_layer, rule_name};
 use sf_format::{
-    Defect, Demand, Form, LayerRule, Rule, RuleForm, Ruled, Says, StepRefusal, ValueRule, Version,
+    Defect, DemandForm, Form, LayerRule, PairAsk, Rule, RuleForm, Ruled, Says, StepRefusal,
+    ValueRule, Version,
 };
 use sf_layers::Store;
 use sf_streams::Window;
@@ -39,8 +41,12 @@ fn any_form(byte: u8) -> Option<RuleForm>
     match byte {
         1 => Some(RuleForm::Between(Form::Never)),
         2 => Some(RuleForm::Between(Form::Each)),
-        3 => Some(RuleForm::OnValues(Demand::Unique)),
-        4 => Some(RuleForm::OnValues(Demand::Required)),
+        3 => Some(RuleForm::OnValues(DemandForm::Unique)),
+        4 => Some(RuleForm::OnValues(DemandForm::Required)),
+        5 => Some(RuleForm::OnValues(DemandForm::OneOf)),
+        6 => Some(RuleForm::OnValues(DemandForm::InRange)),
+        7 => Some(RuleForm::ByDistance(Form::Never)),
+        8 => Some(RuleForm::ByDistance(Form::Each)),
         _ => None,
     }
 }
@@ -67,7 +73,7 @@ fn form<R: Read>(window: &mut Window, reader: &mut R, version: Version) -> Resul
     present(form_of_byte(version, byte), place, Defect::BadFile)
 }
 
-/// What a rule between layers of the store says, behind its form.
+/// What a rule between layers of the store says that asks for a matrix, behind its form.
 fn said_between<R: Read>(
     alloc: Global,
     window: &mut Window,
@@ -85,7 +91,30 @@ fn said_between<R: Read>(
     Ok(Says::OfLayers(LayerRule {
         form,
         first,
-        ask,
+        ask: PairAsk::Matrix(ask),
+        second,
+    }))
+}
+
+/// What one says that asks for what is near, behind its form.
+fn said_by_distance<R: Read>(
+    alloc: Global,
+    window: &mut Window,
+    reader: &mut R,
+    form: Form,
+    store: &Store,
+) -> Result<Says, Halt>
+    ensures gives { Gives (λ says. says) (read_said store.now (ByDistance form)) (R.remaining reader.old)
+        (R.remaining reader.new) window.old window.new result }
+    ensures there { IfOk result (λ says. has_said store.now says ≡ true) }
+{
+    let first = known_layer(alloc, window, reader, store)?;
+    let reach = distance(window, reader)?;
+    let second = known_layer(alloc, window, reader, store)?;
+    Ok(Says::OfLayers(LayerRule {
+        form,
+        first,
+        ask: PairAsk::Near(reach),
         second,
     }))
 }
@@ -95,15 +124,16 @@ fn said_on_values<R: Read>(
     alloc: Global,
     window: &mut Window,
     reader: &mut R,
-    demand: Demand,
+    form: DemandForm,
     store: &Store,
 ) -> Result<Says, Halt>
-    ensures gives { Gives (λ says. says) (read_said store.now (OnValues demand)) (R.remaining reader.old)
+    ensures gives { Gives (λ says. says) (read_said store.now (OnValues form)) (R.remaining reader.old)
         (R.remaining reader.new) window.old window.new result }
     ensures there { IfOk result (λ says. has_said store.now says ≡ true) }
 {
     let layer = known_layer(alloc, window, reader, store)?;
-    let column = known_column(alloc, window, reader, store, layer.as_str())?;
+    let (column, column_type) = known_column(alloc, window, reader, store, layer.as_str())?;
+    let demand = demanded(alloc, window, reader, column_type, form)?;
     Ok(Says::OfValues(ValueRule {
         demand,
         layer,
@@ -125,7 +155,8 @@ fn said<R: Read>(
 {
     match form {
         RuleForm::Between(form) => said_between(alloc, window, reader, form, store),
-        RuleForm::OnValues(demand) => said_on_values(alloc, window, reader, demand, store),
+        RuleForm::ByDistance(form) => said_by_distance(alloc, window, reader, form, store),
+        RuleForm::OnValues(form) => said_on_values(alloc, window, reader, form, store),
     }
 }
 

@@ -1,18 +1,16 @@
 //! Names and texts of a file.
-ghost use Rattle.std.specs.Prelude.{◌≡◌, ◌≤◌, ◌&&◌, nat_le, length, take, List, ℕ, IsTrue, IfOk, option_copied};
-ghost use Rattle.sf_features.specs.Columns.{named as named_of};
+ghost use Rattle.std.specs.Prelude.{◌≡◌, ◌≤◌, ◌&&◌, nat_le, length, take, List, ℕ, IfOk, option_copied, option_map};
 ghost use Rattle.sf_features.specs.Names.{is_name as is_name_of};
 ghost use Rattle.sf_streams.specs.Streams.{ahead_max};
 ghost use Rattle.sf_format.specs.declared.defect.Defect.TheVariants.{BadName};
 ghost use Rattle.sf_format.specs.Readings.{field, number};
-ghost use Rattle.sf_format.specs.Format.{allowed as allowed_of, fresh_column_name, fresh_layer_name, fresh_rule_name, known_column_name, known_layer_name, name as name_of};
-ghost use Rattle.sf_format.specs.Stored.{has_column_in};
+ghost use Rattle.sf_format.specs.Format.{allowed as allowed_of, fresh_column_name, fresh_layer_name, fresh_rule_name, known_column as known_column_of, known_layer_name, name as name_of, type_in as type_in_of};
 ghost use Rattle.sf_loading.specs.Streaming.{Gives, GivesText, IsTextOf, Judges};
 
 use super::fields::allowed;
 use super::halt::Halt;
 use super::numbers::{number_u8, require};
-use sf_features::{Text, is_name};
+use sf_features::{Column, ColumnType, Text, is_name};
 use sf_format::{Defect, KeptRules};
 use sf_layers::{Layer, Store};
 use sf_streams::Window;
@@ -151,29 +149,41 @@ pub(crate) fn known_layer<R: Read>(
     allowed(known, place, Defect::NoLayer, name)
 }
 
-/// Whether a layer is there and has the column of a name.
-fn has_column(layer: Option<&Layer>, name: &str) -> bool
-    ensures { result ≡ has_column_in name.now (option_copied layer.entry) }
+/// The type of the column of a name, where the layer is there and has one.
+fn type_in(layer: Option<&Layer>, name: &str) -> Option<ColumnType>
+    ensures { result ≡ type_in_of (option_copied layer.entry) name.now }
 {
     match layer {
-        Some(layer) => layer.column_place(name).is_some(),
-        None => false,
+        Some(layer) => column_type(layer.column(name)),
+        None => None,
     }
 }
 
-/// A name that a column of a layer of the store has.
+/// The type of a column, where it is there.
+fn column_type(column: Option<&Column>) -> Option<ColumnType>
+    ensures { result ≡ option_map (λ column. column.column_type) (option_copied column.entry) }
+{
+    match column {
+        Some(column) => Some(column.column_type),
+        None => None,
+    }
+}
+
+/// A name that a column of a layer of the store has, and the type of that column.
 pub(crate) fn known_column<R: Read>(
     alloc: Global,
     window: &mut Window,
     reader: &mut R,
     store: &Store,
     layer: &str,
-) -> Result<Text, Halt>
-    ensures { Gives (λ t. t) (field name_of (known_column_name store.now layer.now)) (R.remaining reader.old)
+) -> Result<(Text, ColumnType), Halt>
+    ensures { Gives (λ column. column) (field name_of (known_column_of store.now layer.now)) (R.remaining reader.old)
         (R.remaining reader.new) window.old window.new result }
 {
     let place = window.place();
     let name = name(alloc, window, reader)?;
-    let known = has_column(store.layer(layer), name.as_str());
-    allowed(known, place, Defect::NoColumn, name)
+    match type_in(store.layer(layer), name.as_str()) {
+        Some(column_type) => Ok((name, column_type)),
+        None => Err(Halt::Found(place, Defect::NoColumn)),
+    }
 }

@@ -45,7 +45,7 @@ fn attr_text(place: u64, text: Option<Text>) -> Result<AttrValue, Halt>
 }
 
 /// A text, behind its length.
-fn text_value<R: Read>(
+pub(crate) fn text_value<R: Read>(
     alloc: Global,
     window: &mut Window,
     reader: &mut R,
@@ -61,7 +61,7 @@ fn text_value<R: Read>(
 }
 
 /// A number of 64 bits.
-fn int_value<R: Read>(window: &mut Window, reader: &mut R) -> Result<AttrValue, Halt>
+pub(crate) fn int_value<R: Read>(window: &mut Window, reader: &mut R) -> Result<AttrValue, Halt>
     ensures gives { Gives (λ v. v) (typed_value_of ColumnType.Int) (R.remaining reader.old)
         (R.remaining reader.new) window.old window.new result }
     ensures typed { IfOk result (λ v. IsTrue (is_of_type ColumnType.Int v)) }
@@ -71,7 +71,7 @@ fn int_value<R: Read>(window: &mut Window, reader: &mut R) -> Result<AttrValue, 
 }
 
 /// The parts of a number: its digits without the point, and how many of them stand behind it.
-fn decimal_parts<R: Read>(window: &mut Window, reader: &mut R) -> Result<Number, Halt>
+pub(crate) fn decimal_parts<R: Read>(window: &mut Window, reader: &mut R) -> Result<Number, Halt>
     ensures { Gives (λ parts. parts) decimal_parts_of (R.remaining reader.old) (R.remaining reader.new) window.old
         window.new result }
 {
@@ -81,7 +81,7 @@ fn decimal_parts<R: Read>(window: &mut Window, reader: &mut R) -> Result<Number,
 }
 
 /// The number of these parts as a value, where they are its one form.
-fn decimal_in(parts: Number) -> Option<AttrValue>
+pub(crate) fn decimal_in(parts: Number) -> Option<AttrValue>
     ensures { result ≡ decimal_in_of parts }
 {
     match Decimal::new(parts) {
@@ -113,7 +113,7 @@ fn bool_of_byte(byte: u8) -> Option<AttrValue>
 }
 
 /// A truth value.
-fn bool_value<R: Read>(window: &mut Window, reader: &mut R) -> Result<AttrValue, Halt>
+pub(crate) fn bool_value<R: Read>(window: &mut Window, reader: &mut R) -> Result<AttrValue, Halt>
     ensures gives { Gives (λ v. v) (typed_value_of ColumnType.Bool) (R.remaining reader.old)
         (R.remaining reader.new) window.old window.new result }
     ensures typed { IfOk result (λ v. IsTrue (is_of_type ColumnType.Bool v)) }
@@ -145,7 +145,7 @@ fn day_in(parts: Day) -> Option<AttrValue>
 }
 
 /// A day.
-fn date_value<R: Read>(window: &mut Window, reader: &mut R) -> Result<AttrValue, Halt>
+pub(crate) fn date_value<R: Read>(window: &mut Window, reader: &mut R) -> Result<AttrValue, Halt>
     ensures gives { Gives (λ v. v) (typed_value_of ColumnType.Date) (R.remaining reader.old)
         (R.remaining reader.new) window.old window.new result }
     ensures typed { IfOk result (λ v. IsTrue (is_of_type ColumnType.Date v)) }
@@ -176,7 +176,10 @@ fn moment_in(parts: Moment) -> Option<AttrValue>
 }
 
 /// A moment of a day.
-fn datetime_value<R: Read>(window: &mut Window, reader: &mut R) -> Result<AttrValue, Halt>
+pub(crate) fn datetime_value<R: Read>(
+    window: &mut Window,
+    reader: &mut R,
+) -> Result<AttrValue, Halt>
     ensures gives { Gives (λ v. v) (typed_value_of ColumnType.DateTime) (R.remaining reader.old)
         (R.remaining reader.new) window.old window.new result }
     ensures typed { IfOk result (λ v. IsTrue (is_of_type ColumnType.DateTime v)) }

@@ -8,3 +8,5 @@ pub mod NearerLaws
 pub mod OrderedLaws
 pub mod FoundLaws
 pub mod AroundLaws
+pub mod AskedLaws
+pub mod Passed

@@ -2,6 +2,8 @@ pub mod Grown
 pub mod Span
 pub mod Surrounding
 pub mod Answers
+pub mod Pairs
 pub mod Nearest
 pub mod Found
 pub mod Replies
+pub mod Passed

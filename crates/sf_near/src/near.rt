@@ -89,7 +89,7 @@ pub(crate) fn ids_within(
 /// # Errors
 ///
 /// Out of memory alone.
-fn ids_among(
+pub(crate) fn ids_among(
     alloc: Global,
     layer: &Layer,
     near: &[u32],
@@ -113,7 +113,11 @@ fn ids_among(
 /// # Errors
 ///
 /// Out of memory alone.
-fn ids_by_pass(alloc: Global, layer: &Layer, around: &Surroundings) -> Result<Vec<u32>, AllocError>
+pub(crate) fn ids_by_pass(
+    alloc: Global,
+    layer: &Layer,
+    around: &Surroundings,
+) -> Result<Vec<u32>, AllocError>
     ensures { IfOk result (λ ids. ids.items ≡ ids_within_of layer.now (square_of_reach around.now.reach) around.now.geometry) }
 {
     let mut ids = Vec::new(alloc);

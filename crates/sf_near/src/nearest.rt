@@ -19,8 +19,9 @@ use sf_query::Refusal;
 use sf_validity::Valid;
 use std::alloc::{AllocError, Global};
 
-/// Around a geometry the features within one grid step are looked at first, then within two, four, and so on; as often as this at most.
-const DOUBLINGS: u32 = 32;
+/// Around a geometry the features within one grid step are looked at first, then within four times as much while there is none, and
+/// then within twice as much each time; so often at most.
+const REACHES: u32 = 33;
 
 /// The features of a layer that are nearest to the given geometry, so many at most, by their distance, of all points of the plane that
 /// are not in an exterior; those at one distance by their identifiers. Fewer are told only where the layer has fewer.
@@ -61,13 +62,15 @@ fn enough_ids(
     ensures { IfOk result (λ ids. AreEnough layer.now count given.now ids.items) }
 {
     if count < layer.feature_count() && layer.index().is_some() {
-        for doubling in 0..DOUBLINGS {
-            if let Some(reach) = Reach::of_thousandths(1000_u64 << doubling) {
+        let mut thousandths = 1000;
+        for _ in 0..REACHES {
+            if let Some(reach) = Reach::of_thousandths(thousandths) {
                 let around = Surroundings::new(alloc, given, reach)?;
                 let ids = ids_within(alloc, layer, &around)?;
                 if count <= ids.len() {
                     return Ok(ids);
                 }
+                thousandths *= if ids.is_empty() { 4 } else { 2 };
             }
         }
     }

@@ -4,3 +4,4 @@ pub mod NearLaws
 pub mod ListedLaws
 pub mod ContactLaws
 pub mod PairLaws
+pub mod TurnLaws

@@ -47,13 +47,13 @@ lesser-first a b =
 lesser-second : (a b : Fraction) → IsTrue (fraction_le (lesser a b) b)
 lesser-second a b = if_cases (λ (t : Fraction). IsTrue (fraction_le t b)) (fraction_le a b) a b (λ t. t) (λ t. self b)
 
-lesser-is : (P : Fraction → Type 0) (a b : Fraction) → P a → P b → P (lesser a b)
+pub lesser-is : (P : Fraction → Type 0) (a b : Fraction) → P a → P b → P (lesser a b)
 lesser-is P a b h k = if_cases P (fraction_le a b) a b (λ t. h) (λ t. k)
 
-by-first : (a b s : Fraction) → IsFraction a → IsTrue (fraction_le a s) → IsTrue (fraction_le (lesser a b) s)
+pub by-first : (a b s : Fraction) → IsFraction a → IsTrue (fraction_le a s) → IsTrue (fraction_le (lesser a b) s)
 by-first a b s n h = through (lesser a b) a s n (lesser-first a b) h
 
-by-second : (a b s : Fraction) → IsFraction b → IsTrue (fraction_le b s) → IsTrue (fraction_le (lesser a b) s)
+pub by-second : (a b s : Fraction) → IsFraction b → IsTrue (fraction_le b s) → IsTrue (fraction_le (lesser a b) s)
 by-second a b s n h = through (lesser a b) b s n (lesser-second a b) h
 
 -- ---- a grid point and an edge whose ends may be one point
@@ -117,7 +117,7 @@ from-second e f x h =
       reached = flipped r.first r.second (square_to_edge e x) r.reached;
     }
 
-first-number : (e f : Edge) → IsFraction (lesser (square_to_edge f e.a) (square_to_edge f e.b))
+pub first-number : (e f : Edge) → IsFraction (lesser (square_to_edge f e.a) (square_to_edge f e.b))
 first-number e f = lesser-is IsFraction (square_to_edge f e.a) (square_to_edge f e.b) (to-any e.a f).is_number (to-any e.b f).is_number
 
 ends-reached : (e f : Edge) → IsReached (IsOnEdge e) (IsOnEdge f) (square_of_ends e f)
@@ -145,7 +145,7 @@ ends-least e f p q none i j h k =
     ]
 
 -- ---- lists of squares
-abbrev IsOn : List Edge → Point → Type 0
+abbrev pub IsOn : List Edge → Point → Type 0
 IsOn es q = IsTrue (list_any (λ e. on_edge e q) es)
 
 abbrev Within : (Point → Type 0) → (Point → Type 0) → Type 0
@@ -155,12 +155,12 @@ all-append : (P : Fraction → Type 0) (ss ts : List Fraction) → AllByRecursio
 all-append P [] ts h k = k
 all-append P (s ∷ ss) ts h k = (h.0, all-append P ss ts h.1 k)
 
-least-is : (P : Fraction → Type 0) (ss : List Fraction) → 0 < length ss → AllByRecursion P ss → P (least_of ss)
+pub least-is : (P : Fraction → Type 0) (ss : List Fraction) → 0 < length ss → AllByRecursion P ss → P (least_of ss)
 least-is P [] some h = absurd (omega (arith, some))
 least-is P (s ∷ []) some h = h.0
 least-is P (s ∷ t ∷ rest) some h = lesser-is P s (least_of (t ∷ rest)) h.0 (least-is P (t ∷ rest) (omega arith) h.1)
 
-least-le : (z : Fraction) (ss : List Fraction) → AllByRecursion IsFraction ss → list_any (λ s. fraction_le s z) ss ≡ true → IsTrue (fraction_le (least_of ss) z)
+pub least-le : (z : Fraction) (ss : List Fraction) → AllByRecursion IsFraction ss → list_any (λ s. fraction_le s z) ss ≡ true → IsTrue (fraction_le (least_of ss) z)
 least-le z [] n h = absurd (both_ways false refl h)
 least-le z (s ∷ []) n h =
     elim (or_cases (fraction_le s z) false h) [
@@ -182,7 +182,7 @@ row-all P B e (f ∷ fs) each on = (
   row-all P B e fs each (λ q h. on q (or_right (on_edge f q) (list_any (λ e. on_edge e q) fs) h)),
 )
 
-pairs-all : (P : Fraction → Type 0) (A B : Point → Type 0) (es fs : List Edge) → ((e f : Edge) → Within (IsOnEdge e) A → Within (IsOnEdge f) B → P (square_of_ends e f))
+pub pairs-all : (P : Fraction → Type 0) (A B : Point → Type 0) (es fs : List Edge) → ((e f : Edge) → Within (IsOnEdge e) A → Within (IsOnEdge f) B → P (square_of_ends e f))
     → Within (IsOn es) A → Within (IsOn fs) B → AllByRecursion P (squares_of_pairs es fs)
 pairs-all P A B [] fs each on over = tt
 pairs-all P A B (e ∷ es) fs each on over =
@@ -217,12 +217,12 @@ pairs-any z p q (e ∷ es) fs each h k =
           (pairs-any z p q es fs (λ g f into over. each g f (λ r i. or_right (on_edge e r) (list_any (λ e. on_edge e r) es) (into r i)) over) t k)
     ]
 
-some-pair : (es fs : List Edge) → 0 < length es → 0 < length fs → 0 < length (squares_of_pairs es fs)
+pub some-pair : (es fs : List Edge) → 0 < length es → 0 < length fs → 0 < length (squares_of_pairs es fs)
 some-pair [] fs h k = absurd (omega (arith, h))
 some-pair (e ∷ es) [] h k = absurd (omega (arith, k))
 some-pair (e ∷ es) (f ∷ fs) h k = omega arith
 
-ends-number : (e f : Edge) → IsFraction (square_of_ends e f)
+pub ends-number : (e f : Edge) → IsFraction (square_of_ends e f)
 ends-number e f = lesser-is IsFraction _ _ (first-number e f) (first-number f e)
 
 pairs-least : (es fs : List Edge) → 0 < length es → 0 < length fs → ((p : Point) → IsPoint p → IsOn es p → IsOn fs p → ⊥) → IsLeastSquare (IsOn es) (IsOn fs) (least_of (squares_of_pairs es fs))

@@ -11,6 +11,7 @@ use Rattle.sf_query.specs.declared.ask.Ask.{Ask}
 use Rattle.sf_query.specs.Answers.{ids_found, is_asked}
 use Rattle.sf_joins.specs.Converse.{HasNineLetters, converse}
 use Rattle.sf_joins.specs.Joins.{are_distinct, is_pair}
+use Rattle.sf_joins.specs.Passed.{Matrix}
 use Rattle.sf_joins.proofs.ConverseLaws.{asks-turn-round}
 use Rattle.sf_reach.specs.Added.{AreAdded}
 
@@ -52,22 +53,22 @@ and-false true = refl
 and-false false = refl
 
 any-pair : (one : Bool) (ask : Ask) (id : ℕ) (f : FeatureContent) (es : List (ℕ × FeatureContent)) → HasNineLetters ask
-    → list_any (are_distinct one id) (keys_of (filter (λ e. is_asked (converse ask) e.1.geometry f.geometry) es)) ≡ list_any (is_pair one ask (id, f)) es
+    → list_any (are_distinct one id) (keys_of (filter (λ e. is_asked (converse ask) e.1.geometry f.geometry) es)) ≡ list_any (is_pair one (Matrix ask) (id, f)) es
 any-pair one ask id f [] nine = refl
 any-pair one ask id f (e ∷ es) nine =
     by (is_asked (converse ask) e.1.geometry f.geometry) (any-pair one ask id f es nine)
-    ∙ ap (λ t. (are_distinct one id e.0 && t) || list_any (is_pair one ask (id, f)) es) (sym (asks-turn-round ask f.geometry e.1.geometry nine))
+    ∙ ap (λ t. (are_distinct one id e.0 && t) || list_any (is_pair one (Matrix ask) (id, f)) es) (sym (asks-turn-round ask f.geometry e.1.geometry nine))
   where
     left : List (ℕ × FeatureContent)
     left = filter (λ x. is_asked (converse ask) x.1.geometry f.geometry) es
 
-    by : (t : Bool) → list_any (are_distinct one id) (keys_of left) ≡ list_any (is_pair one ask (id, f)) es
-        → list_any (are_distinct one id) (keys_of (cond t (e ∷ left) left)) ≡ ((are_distinct one id e.0 && t) || list_any (is_pair one ask (id, f)) es)
-    by true rest = ap (λ b. are_distinct one id e.0 || b) rest ∙ ap (λ b. b || list_any (is_pair one ask (id, f)) es) (and-true (are_distinct one id e.0))
-    by false rest = rest ∙ ap (λ b. b || list_any (is_pair one ask (id, f)) es) (and-false (are_distinct one id e.0))
+    by : (t : Bool) → list_any (are_distinct one id) (keys_of left) ≡ list_any (is_pair one (Matrix ask) (id, f)) es
+        → list_any (are_distinct one id) (keys_of (cond t (e ∷ left) left)) ≡ ((are_distinct one id e.0 && t) || list_any (is_pair one (Matrix ask) (id, f)) es)
+    by true rest = ap (λ b. are_distinct one id e.0 || b) rest ∙ ap (λ b. b || list_any (is_pair one (Matrix ask) (id, f)) es) (and-true (are_distinct one id e.0))
+    by false rest = rest ∙ ap (λ b. b || list_any (is_pair one (Matrix ask) (id, f)) es) (and-false (are_distinct one id e.0))
 
 pub any-asked : (one : Bool) (ask turned : Ask) (layer : LayerContent) (id : ℕ) (f : FeatureContent) (geometry : Geometry) → HasNineLetters ask → turned ≡ converse ask → geometry ≡ f.geometry
-    → list_any (are_distinct one id) (ids_found layer turned geometry) ≡ list_any (is_pair one ask (id, f)) layer.features
+    → list_any (are_distinct one id) (ids_found layer turned geometry) ≡ list_any (is_pair one (Matrix ask) (id, f)) layer.features
 any-asked one ask turned layer id f geometry nine is same =
     ap (λ a. list_any (are_distinct one id) (ids_found layer a geometry)) is
     ∙ ap (λ g. list_any (are_distinct one id) (ids_found layer (converse ask) g)) same

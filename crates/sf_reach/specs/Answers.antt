@@ -6,16 +6,17 @@ use Rattle.sf_features.specs.Features.{FeatureContent}
 use Rattle.sf_layers.specs.Content.{LayerContent}
 use Rattle.sf_query.specs.declared.ask.Ask.{Ask}
 use Rattle.sf_joins.specs.Joins.{is_pair}
+use Rattle.sf_joins.specs.Passed.{Matrix}
 use Rattle.sf_reach.specs.Chains.{Stop}
 
 -- a feature ends chains
 abbrev pub is_end : Option Stop → ℕ × FeatureContent → Bool
 is_end None entry = false
-is_end (Some stop) entry = list_any (is_pair stop.is_own stop.ask entry) stop.layer.features
+is_end (Some stop) entry = list_any (is_pair stop.is_own (Matrix stop.ask) entry) stop.layer.features
 
 -- a chain goes on from a feature to another one
 abbrev pub is_step : Ask → Option Stop → ℕ × FeatureContent → ℕ × FeatureContent → Bool
-is_step ask stop from to = not (is_end stop from) && is_pair true ask from to
+is_step ask stop from to = not (is_end stop from) && is_pair true (Matrix ask) from to
 
 -- the identifiers have this one
 abbrev pub is_among : List ℕ → ℕ × FeatureContent → Bool

@@ -3,6 +3,7 @@ use Rattle.std.specs.Prelude.{◌≡◌, ℕ, Bool, true, List, [], ◌∷◌, O
 use Rattle.sf_layers.specs.Content.{LayerContent}
 use Rattle.sf_query.specs.declared.ask.Ask.{Ask}
 use Rattle.sf_joins.specs.Joins.{IsJoined}
+use Rattle.sf_joins.specs.Passed.{Matrix}
 
 -- where chains end: at a feature that is as asked with some feature of this layer, which may be the own one
 pub record Stop : Type 0 where
@@ -13,12 +14,12 @@ pub record Stop : Type 0 where
 -- the feature under this identifier of the layer ends the chains that lead to it
 abbrev pub IsEnd : LayerContent → Option Stop → ℕ → Type 0
 IsEnd layer None i = ⊥
-IsEnd layer (Some stop) i = (j : ℕ) × IsJoined stop.is_own layer stop.ask stop.layer i j
+IsEnd layer (Some stop) i = (j : ℕ) × IsJoined stop.is_own layer (Matrix stop.ask) stop.layer i j
 
 -- of two features of the layer the first is as asked with the second, over all points of the plane, and no end
 pub record IsStep (layer : LayerContent) (ask : Ask) (stop : Option Stop) (i j : ℕ) : Type 0 where
   pub goes_on : ¬ IsEnd layer stop i
-  pub joined : IsJoined true layer ask layer i j
+  pub joined : IsJoined true layer (Matrix ask) layer i j
 
 -- a chain leads from the first to the last, by steps over those between
 abbrev pub IsChain : LayerContent → Ask → Option Stop → ℕ → List ℕ → ℕ → Type 0

@@ -1,7 +1,7 @@
 -- Numbers and names of the refusals.
 use Rattle.std.specs.Prelude.{ℕ, List, codes}
 use Rattle.sf_refusals.specs.declared.refusal.Refusal.{Refusal}
-use Rattle.sf_refusals.specs.declared.refusal.Refusal.TheVariants.{Memory, Syntax, OffGrid, OutOfRange, Empty, UnsupportedType, Truncated, Trailing, TooManyVertices, ShortLine, OpenRing, ShortRing, RingNotSimple, RingsMeet, HoleOutside, HolesNested, PolygonsOverlap, NoLayer, LayerExists, BadName, NoFeature, NoColumn, ColumnExists, WrongValue, NoVertex, WrongKind, IdsExhausted, ColumnsExhausted, NothingToUndo, NothingToRedo, BadCommand, BadPattern, LineTooLong, BadFile, BadPlace, NotYours, RuleBroken, Unfinished, NoRule, RuleExists, LayerRuled}
+use Rattle.sf_refusals.specs.declared.refusal.Refusal.TheVariants.{Memory, Syntax, OffGrid, OutOfRange, Empty, UnsupportedType, Truncated, Trailing, TooManyVertices, ShortLine, OpenRing, ShortRing, RingNotSimple, RingsMeet, HoleOutside, HolesNested, PolygonsOverlap, NoLayer, LayerExists, BadName, NoFeature, NoColumn, ColumnExists, WrongValue, NoVertex, WrongKind, IdsExhausted, ColumnsExhausted, NothingToUndo, NothingToRedo, BadCommand, BadPattern, LineTooLong, BadFile, BadPlace, NotYours, RuleBroken, Unfinished, NoRule, RuleExists, LayerRuled, ColumnRuled}
 
 -- the number of a refusal
 abbrev pub number_of : Refusal → ℕ
@@ -46,6 +46,7 @@ number_of Unfinished = 38
 number_of NoRule = 39
 number_of RuleExists = 40
 number_of LayerRuled = 41
+number_of ColumnRuled = 42
 
 -- the name of a refusal
 abbrev pub name_of : Refusal → List ℕ
@@ -90,3 +91,4 @@ name_of Unfinished = codes "Unfinished"
 name_of NoRule = codes "NoRule"
 name_of RuleExists = codes "RuleExists"
 name_of LayerRuled = codes "LayerRuled"
+name_of ColumnRuled = codes "ColumnRuled"

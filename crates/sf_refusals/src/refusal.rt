@@ -86,6 +86,8 @@ pub enum Refusal {
     RuleExists,
     /// A rule names the layer that is to be dropped.
     LayerRuled,
+    /// A rule names the column that is to be dropped.
+    ColumnRuled,
 }
 
 impl Refusal {
@@ -135,6 +137,7 @@ impl Refusal {
             Refusal::NoRule => 39,
             Refusal::RuleExists => 40,
             Refusal::LayerRuled => 41,
+            Refusal::ColumnRuled => 42,
         }
     }
 
@@ -184,6 +187,7 @@ impl Refusal {
             Refusal::NoRule => "NoRule",
             Refusal::RuleExists => "RuleExists",
             Refusal::LayerRuled => "LayerRuled",
+            Refusal::ColumnRuled => "ColumnRuled",
         }
     }
 }

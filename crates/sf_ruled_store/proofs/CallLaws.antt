@@ -2,7 +2,7 @@
 use Rattle.std.proofs.Common.{◌≡◌, ◌⊎◌, inl, inr, ℕ, Bool, true, false, ◌&&◌, ◌||◌, cond, List, [], ◌∷◌, ◌++◌, map, remove, Option, Some, None, is_some, Ok, Err, Result, bytes_eq, refl, ap, sym, subst, ◌∙◌}
 use Rattle.std.specs.Prelude.{if◌then◌else◌}
 use Rattle.std.specs.List.{list_all}
-use Rattle.std.specs.Option.{option_and_then, option_map}
+use Rattle.std.specs.Option.{option_and_then, option_map, option_map_or}
 use Rattle.sf_features.specs.declared.column.Column.{Column}
 use Rattle.sf_features.specs.Columns.{named}
 use Rattle.sf_layers.specs.Content.{Content, LayerContent, change_layer, column_named, column_place, has_layer, layer_of, place_of}
@@ -51,28 +51,33 @@ use Rattle.sf_ruled_store.specs.declared.refusal.Refusal.TheVariants.{ByEdit, By
 use Rattle.sf_ruled_store.specs.declared.undo.Undo.TheVariants as undos
 use Rattle.sf_ruled_store.specs.Outcomes.{IsRefusedAs, as_edit, as_member, by_edit, by_member, by_rules, ruled}
 use Rattle.sf_ruled_store.specs.Outcomes.{answer_of as answer_of_ids}
-use Rattle.sf_ruled_store.specs.Ruled.{OfChange, Ruled, after_change, edit_led, group_led, has_column_in, has_layers_of, has_layers_said, has_named, has_said, ruled_step, rules_after, settled, unless_broken, why_missing, with_renamed}
+use Rattle.sf_ruled_store.specs.Ruled.{OfChange, Ruled, after_change, edit_led, fits_column, fits_layer, group_led, has_layers_of, has_layers_said, has_named, has_said, ruled_step, rules_after, settled, unless_broken, why_missing, with_renamed}
 use Rattle.sf_ruled_store.specs.Undos.{IsEdited, IsGrouped, IsSettled, IsUnseen, alone, changes_geometries, is_renaming, is_seen, sees, sees_said}
 use Rattle.sf_ruled_store.proofs.NameLaws.{same-names}
 use Rattle.sf_ruled_store.proofs.EditLaws.{column-there, renamed-settled, settled-ok, unseen-rules, unseen-settled}
 
 -- ---- edits that no rule sees
 
+-- an edit that was accepted and leaves all rules settled
+pub settled-edited : (old new : Content) (rules : List Rule) (edit : Edit) (inverse : Inverse) → IsSettled (ruled old rules) → rules_after rules (OfEdit edit) ≡ rules → IsSettled (ruled new rules)
+    → Accepts old edit inverse new → IsEdited (ruled old rules) edit (answer_of inverse) (undos.Change (changes.Edit inverse)) (ruled new rules)
+settled-edited old new rules edit inverse held same now accepts = record {
+  led =
+      ap (λ r. after_change (ruled old rules) (OfEdit edit) (edit_led r)) accepts.led
+      ∙ ap (λ rs. settled (ruled new rs)) same ∙ settled-ok (ruled new rules) now;
+  answered = accepts.led;
+  back = ap (λ c. ruled c rules) (sym accepts.restores.described_by);
+  fits = record {
+    can = subst (Restores new inverse) accepts.restores.described_by accepts.restores;
+    settled = subst (λ c. IsSettled (ruled c rules)) accepts.restores.described_by held;
+  };
+}
+
 pub unseen-edited : (old new : Content) (rules : List Rule) (edit : Edit) (inverse : Inverse) → IsWellFormed old → IsSettled (ruled old rules) → IsUnseen rules edit → Accepts old edit inverse new
     → IsEdited (ruled old rules) edit (answer_of inverse) (undos.Change (changes.Edit inverse)) (ruled new rules)
 unseen-edited old new rules edit inverse fine held unseen accepts =
     let a = Accepted-step old new edit (answer_of inverse) accepts.led in
-    let now : IsSettled (ruled new rules) = subst (λ c. IsSettled (ruled c rules)) a.effect (unseen-settled old edit rules fine a.passed held unseen) in record {
-      led =
-          ap (λ r. after_change (ruled old rules) (OfEdit edit) (edit_led r)) accepts.led
-          ∙ ap (λ rs. settled (ruled new rs)) (unseen-rules edit rules unseen) ∙ settled-ok (ruled new rules) now;
-      answered = accepts.led;
-      back = ap (λ c. ruled c rules) (sym accepts.restores.described_by);
-      fits = record {
-        can = subst (Restores new inverse) accepts.restores.described_by accepts.restores;
-        settled = subst (λ c. IsSettled (ruled c rules)) accepts.restores.described_by held;
-      };
-    }
+    settled-edited old new rules edit inverse held (unseen-rules edit rules unseen) (subst (λ c. IsSettled (ruled c rules)) a.effect (unseen-settled old edit rules fine a.passed held unseen)) accepts
 
 pub edit-refused : (old : Content) (rules : List Rule) (edit : Edit) (refusal : EditRefusal) → Refuses old edit refusal
     → IsRefusedAs (ruled_step (ruled old rules) (OfChange (OfEdit edit))) (by_edit refusal)
@@ -159,7 +164,7 @@ layer-there content edit (OfLayers rule) there seen = at (and_true (has_layer co
     at two (inl is) = subst (λ n. has_layer content n ≡ true) (sym (same-names (edit_layer edit) rule.first is)) two.0
     at two (inr is) = subst (λ n. has_layer content n ≡ true) (sym (same-names (edit_layer edit) rule.second is)) two.1
 layer-there content edit (OfValues rule) there seen =
-    let c = column-there rule.column (layer_of content rule.layer) there in
+    let c = column-there rule (layer_of content rule.layer) there in
     subst (λ n. has_layer content n ≡ true) (sym (same-names (edit_layer edit) rule.layer (and_true _ _ seen).0)) (ap is_some c.2)
 
 -- where the layer is gone, neither is it there for the rule, nor its column
@@ -177,7 +182,7 @@ layer-gone content edit (OfLayers rule) none seen = at (or_true (bytes_eq (edit_
     at (inr is) = either (and_second (has_layer content rule.first) (has_layer content rule.second) (gone rule.second is))
 layer-gone content edit (OfValues rule) none seen =
     let gone : layer_of content rule.layer ≡ None = subst (λ n. layer_of content n ≡ None) (same-names (edit_layer edit) rule.layer (and_true _ _ seen).0) none in
-    (ap is_some gone, ap (has_column_in rule.column) gone)
+    (ap is_some gone, ap (fits_layer rule) gone)
 
 pub dropped-refused : (old : Content) (rules : List Rule) (name : List ℕ) → IsWellFormed old → IsSettled (ruled old rules) → is_seen (DropLayer name) rules ≡ true
     → ruled_step (ruled old rules) (OfChange (OfEdit (DropLayer name))) ≡ Err LayerRuled
@@ -207,7 +212,7 @@ column-seen content name column (OfValues rule) there seen =
     let both = and_true (bytes_eq name rule.layer) _ seen in
     let same : rule.column ≡ column = same-names rule.column column (or_left (bytes_eq rule.column column) both.1) in
     subst (λ n. (a : LayerContent) × (c : Column) × (layer_of content n ≡ Some a) × (column_named a column ≡ Some c)) (sym (same-names name rule.layer both.0))
-    (subst (λ m. (a : LayerContent) × (c : Column) × (layer_of content rule.layer ≡ Some a) × (column_named a m ≡ Some c)) same (column-there rule.column (layer_of content rule.layer) there))
+    (subst (λ m. (a : LayerContent) × (c : Column) × (layer_of content rule.layer ≡ Some a) × (column_named a m ≡ Some c)) same (column-there rule (layer_of content rule.layer) there))
   where
     or_left : (b : Bool) → b || false ≡ true → b ≡ true
     or_left true h = refl
@@ -219,10 +224,10 @@ column-gone : (content : Content) (name column : List ℕ) (a : LayerContent) (s
 column-gone content name column a (OfLayers rule) found none seen = let wrong : false ≡ true = (and_true (bytes_eq name rule.first || bytes_eq name rule.second) false seen).1 in cc
 column-gone content name column a (OfValues rule) found none seen =
     let both = and_true (bytes_eq name rule.layer) _ seen in
-    ap (λ n. has_column_in rule.column (layer_of content n)) (sym (same-names name rule.layer both.0))
-    ∙ ap (has_column_in rule.column) found
-    ∙ ap (λ n. is_some (column_named a n)) (same-names rule.column column (or_left (bytes_eq rule.column column) both.1))
-    ∙ ap is_some none
+    ap (λ n. fits_layer rule (layer_of content n)) (sym (same-names name rule.layer both.0))
+    ∙ ap (fits_layer rule) found
+    ∙ ap (λ n. fits_column rule.demand (column_named a n)) (same-names rule.column column (or_left (bytes_eq rule.column column) both.1))
+    ∙ ap (fits_column rule.demand) none
   where
     or_left : (b : Bool) → b || false ≡ true → b ≡ true
     or_left true h = refl
@@ -231,7 +236,7 @@ column-gone content name column a (OfValues rule) found none seen =
 -- layers are there by their names
 layers-by : (old new : Content) → ((name : List ℕ) → has_layer new name ≡ has_layer old name) → (says : Says) → has_said old says ≡ true → has_layers_said new says ≡ true
 layers-by old new same (OfLayers rule) there = ap (λ b. b && has_layer new rule.second) (same rule.first) ∙ ap (λ b. has_layer old rule.first && b) (same rule.second) ∙ there
-layers-by old new same (OfValues rule) there = let c = column-there rule.column (layer_of old rule.layer) there in same rule.layer ∙ ap is_some c.2
+layers-by old new same (OfValues rule) there = let c = column-there rule (layer_of old rule.layer) there in same rule.layer ∙ ap is_some c.2
 
 all-layers-by : (old new : Content) → ((name : List ℕ) → has_layer new name ≡ has_layer old name) → (rules : List Rule) → list_all (has_named old) rules ≡ true → list_all (has_layers_of new) rules ≡ true
 all-layers-by old new same [] there = refl
@@ -325,27 +330,32 @@ not-seen (ClearValue name id cleared) rules of layer column other = cc
 
 -- ---- groups
 
+-- whether a layer is there with columns that pass a test
+abbrev has_columns_that : (List Column → Bool) → Option LayerContent → Bool
+has_columns_that test layer = option_map_or (λ (l : LayerContent). test l.columns) layer false
+
 -- all that a rule names is there in a content with the same layers and columns
-there-by-order : (c d : Content) (name column : List ℕ) → HaveOneOrder c d → (has_layer c name ≡ has_layer d name) × (has_column_in column (layer_of c name) ≡ has_column_in column (layer_of d name))
-there-by-order [] [] name column h = (refl, refl)
-there-by-order [] (y ∷ d) name column h = absurd h
-there-by-order (x ∷ c) [] name column h = absurd h
-there-by-order (x ∷ c) (y ∷ d) name column h = by (bytes_eq name y.0) (ap (bytes_eq name) h.0) (there-by-order c d name column h.2)
+there-by-order : (c d : Content) (name : List ℕ) (test : List Column → Bool) → HaveOneOrder c d
+    → (has_layer c name ≡ has_layer d name) × (has_columns_that test (layer_of c name) ≡ has_columns_that test (layer_of d name))
+there-by-order [] [] name test h = (refl, refl)
+there-by-order [] (y ∷ d) name test h = absurd h
+there-by-order (x ∷ c) [] name test h = absurd h
+there-by-order (x ∷ c) (y ∷ d) name test h = by (bytes_eq name y.0) (ap (bytes_eq name) h.0) (there-by-order c d name test h.2)
   where
     Same : Option LayerContent → Option LayerContent → Type 0
-    Same o p = (is_some o ≡ is_some p) × (has_column_in column o ≡ has_column_in column p)
+    Same o p = (is_some o ≡ is_some p) × (has_columns_that test o ≡ has_columns_that test p)
 
     by : (t : Bool) → bytes_eq name x.0 ≡ t → Same (layer_of c name) (layer_of d name) → Same (cond (bytes_eq name x.0) (Some x.1) (layer_of c name)) (cond t (Some y.1) (layer_of d name))
     by true is rest =
-        subst (λ t. Same (cond t (Some x.1) (layer_of c name)) (Some y.1)) (sym is) (refl, ap (λ cs. is_some (named cs column)) h.1.2)
+        subst (λ t. Same (cond t (Some x.1) (layer_of c name)) (Some y.1)) (sym is) (refl, ap test h.1.2)
     by false is rest = subst (λ t. Same (cond t (Some x.1) (layer_of c name)) (layer_of d name)) (sym is) rest
 
 said-same : (old new : Content) (says : Says) → HaveOneOrder new old → has_said new says ≡ has_said old says
 said-same old new (OfLayers rule) same =
-    ap (λ b. b && has_layer new rule.second) (there-by-order new old rule.first [] same).0 ∙ ap (λ b. has_layer old rule.first && b) (there-by-order new old rule.second [] same).0
-said-same old new (OfValues rule) same = (there-by-order new old rule.layer rule.column same).1
+    ap (λ b. b && has_layer new rule.second) (there-by-order new old rule.first (λ columns. true) same).0 ∙ ap (λ b. has_layer old rule.first && b) (there-by-order new old rule.second (λ columns. true) same).0
+said-same old new (OfValues rule) same = (there-by-order new old rule.layer (λ columns. fits_column rule.demand (named columns rule.column)) same).1
 
-there-same : (old new : Content) (rules : List Rule) → HaveOneOrder new old → list_all (has_named new) rules ≡ list_all (has_named old) rules
+pub there-same : (old new : Content) (rules : List Rule) → HaveOneOrder new old → list_all (has_named new) rules ≡ list_all (has_named old) rules
 there-same old new [] same = refl
 there-same old new (rule ∷ rules) same =
     ap (λ b. b && list_all (has_named new) rules) (said-same old new rule.says same) ∙ ap (λ b. has_named old rule && b) (there-same old new rules same)

@@ -24,7 +24,7 @@ use Rattle.sf_rules.specs.declared.rule.Says.TheVariants.{OfLayers, OfValues}
 use Rattle.sf_rules.specs.Rules.{break_between, break_on, break_said, first_broken, of_one}
 use Rattle.sf_ruled_store.specs.declared.refusal.Refusal.{Refusal}
 use Rattle.sf_ruled_store.specs.Outcomes.{ruled}
-use Rattle.sf_ruled_store.specs.Ruled.{Ruled, has_column_in, has_named, has_said, renamed, renamed_said, rules_after, settled, unless_broken, why_missing, with_renamed}
+use Rattle.sf_ruled_store.specs.Ruled.{Ruled, fits_column, fits_layer, has_named, has_said, renamed, renamed_said, rules_after, settled, unless_broken, why_missing, with_renamed}
 use Rattle.sf_ruled_store.specs.Undos.{IsSettled, IsUnseen, changes_geometries, ends_name, is_seen, sees, sees_said}
 use Rattle.sf_ruled_store.proofs.RuleNames.{named-alike}
 use Rattle.sf_ruled_store.proofs.NameLaws.{itself, layer_of-moved, layer_of-push, layer_of-remove-other, layer_of-renamed, layer_of-renamed-other, same-names, turned}
@@ -144,7 +144,7 @@ same_name : List ℕ → List ℕ
 same_name name = name
 
 -- a rule between layers that does not see an edit
-layers-unseen : (content : Content) (edit : Edit) (rule : LayerRule) → IsWellFormed content → first_refusal (checks content edit) ≡ None → has_said content (OfLayers rule) ≡ true
+pub layers-unseen : (content : Content) (edit : Edit) (rule : LayerRule) → IsWellFormed content → first_refusal (checks content edit) ≡ None → has_said content (OfLayers rule) ≡ true
     → sees_said edit (OfLayers rule) ≡ false → SaidAlike content (effect content edit) (OfLayers rule) (OfLayers rule)
 unfolding same_name
 layers-unseen content edit rule fine h there unseen =
@@ -170,18 +170,19 @@ layers-unseen content edit rule fine h there unseen =
     second is = both (bytes_eq (edit_layer edit) rule.first) (bytes_eq (edit_layer edit) rule.second) unseen (right (bytes_eq (edit_layer edit) rule.first) (bytes_eq (edit_layer edit) rule.second) is)
 
 -- the layer and the column of a rule on values
-pub column-there : (name : List ℕ) (o : Option LayerContent) → has_column_in name o ≡ true → (a : LayerContent) × (column : Column) × (o ≡ Some a) × (column_named a name ≡ Some column)
-column-there name None h = cc
-column-there name (Some a) h = by (column_named a name) refl h
+pub column-there : (rule : ValueRule) (o : Option LayerContent) → fits_layer rule o ≡ true → (a : LayerContent) × (column : Column) × (o ≡ Some a) × (column_named a rule.column ≡ Some column)
+column-there rule None h = cc
+column-there rule (Some a) h = by (column_named a rule.column) refl h
   where
-    by : (c : Option Column) → column_named a name ≡ c → is_some c ≡ true → (b : LayerContent) × (column : Column) × (Some a ≡ Some b) × (column_named b name ≡ Some column)
+    by : (c : Option Column) → column_named a rule.column ≡ c → fits_column rule.demand c ≡ true
+        → (b : LayerContent) × (column : Column) × (Some a ≡ Some b) × (column_named b rule.column ≡ Some column)
     by None is g = cc
     by (Some column) is g = (a, column, refl, is)
 
 values-unseen : (content : Content) (edit : Edit) (rule : ValueRule) → IsWellFormed content → first_refusal (checks content edit) ≡ None → has_said content (OfValues rule) ≡ true
     → sees_said edit (OfValues rule) ≡ false → SaidAlike content (effect content edit) (OfValues rule) (OfValues rule)
 values-unseen content edit rule fine h there unseen =
-    let c = column-there rule.column (layer_of content rule.layer) there in
+    let c = column-there rule (layer_of content rule.layer) there in
     values-alike content (effect content edit) rule c.0 c.1 c.2 c.3 (unseen-kept content rule c.0 c.1 fine c.2 c.3 edit h unseen)
 
 said-unseen : (content : Content) (edit : Edit) (says : Says) → IsWellFormed content → first_refusal (checks content edit) ≡ None → has_said content says ≡ true
@@ -298,9 +299,9 @@ renamed-said content n n' layer (OfLayers rule) found none there =
     alike-by content (renamed_at (place_of content n) n' content) rule (renamed n n') (renamed-one content n n' rule.first rule.second none two.0 two.1)
     (renamed-shapes content n n' layer rule.first found none two.0) (renamed-shapes content n n' layer rule.second found none two.1)
 renamed-said content n n' layer (OfValues rule) found none there =
-    let c = column-there rule.column (layer_of content rule.layer) there in
+    let c = column-there rule (layer_of content rule.layer) there in
     let same = renamed-layer content n n' layer rule.layer found none (ap is_some c.2) in
-    (ap (break_on rule) same, ap (has_column_in rule.column) same)
+    (ap (break_on rule) same, ap (fits_layer rule) same)
 
 renamed-alike : (content : Content) (n n' : List ℕ) (layer : LayerContent) (rules : List Rule) → layer_of content n ≡ Some layer → layer_of content n' ≡ None → list_all (has_named content) rules ≡ true
     → AllByRecursion (λ rule. IsAlike content (renamed_at (place_of content n) n' content) rule (with_renamed n n' rule)) rules

@@ -8,3 +8,4 @@ pub mod CallLaws
 pub mod TurnLaws
 pub mod LedLaws
 pub mod HeldLaws
+pub mod InPlaceLaws

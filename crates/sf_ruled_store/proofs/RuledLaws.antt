@@ -1,6 +1,6 @@
 -- Rules hold in every content that steps lead to.
 use Rattle.std.proofs.Common.{◌≡◌, ◌∙◌, ℕ, Bool, true, false, not, ◌&&◌, List, [], ◌∷◌, ◌++◌, length, remove, take, drop, zero, suc, Option, None, Some, Result, Ok, Err, nat_lt, slice_get, refl, ap, sym, subst}
-use Rattle.std.specs.Prelude.{if◌then◌else◌}
+use Rattle.std.specs.Prelude.{if◌then◌else◌, is_some}
 use Rattle.std.specs.List.{AllByRecursion, list_all}
 use Rattle.sf_layers.specs.Content.{Content, has_layer}
 use Rattle.sf_layers.specs.WellFormed.{IsWellFormed}
@@ -11,16 +11,18 @@ use Rattle.sf_steps.specs.Steps.{step}
 use Rattle.sf_features.specs.Names.{is_name}
 use Rattle.sf_steps.specs.declared.refusal.Refusal.{Refusal as EditRefusal}
 use Rattle.sf_ruled_store.specs.declared.refusal.Refusal.{Refusal}
-use Rattle.sf_ruled_store.specs.declared.refusal.Refusal.TheVariants.{RuleBroken, RuleExists, ColumnRuled, LayerRuled, BadName, NoLayer, NoColumn, TooManyRules}
-use Rattle.sf_layers.specs.Content.{LayerContent, layer_of}
+use Rattle.sf_ruled_store.specs.declared.refusal.Refusal.TheVariants.{RuleBroken, RuleExists, ColumnRuled, LayerRuled, BadName, NoLayer, NoColumn, TooManyRules, WrongValue}
+use Rattle.sf_features.specs.declared.column.Column.{Column}
+use Rattle.sf_layers.specs.Content.{LayerContent, column_named, layer_of}
 use Rattle.sf_rules.specs.declared.rule.Rule.{Rule}
 use Rattle.sf_rules.specs.declared.rule.Says.{Says}
+use Rattle.sf_rules.specs.declared.rule.ValueRule.{ValueRule}
 use Rattle.sf_rules.specs.declared.rule.Says.TheVariants.{OfLayers, OfValues}
 use Rattle.sf_rules.specs.declared.breaks.Break.{Break}
 use Rattle.sf_rules.specs.declared.breaks.Broken.{Broken}
 use Rattle.sf_rules.specs.Holds.{HasColumn, HasNamed, HasSaid, Holds, IsBrokenBy}
 use Rattle.sf_rules.specs.Rules.{break_of, broken_or, first_broken}
-use Rattle.sf_ruled_store.specs.Ruled.{OfChange, AddRule, DropRule, Ruled, added, after_change, change_led, dropped, edit_led, group_led, has_column_in, has_layers_of, has_named, has_rule, has_said, place_of_rule, without_rule, rules_after, rules_max, settled, unless_broken, why_missing, with_rule}
+use Rattle.sf_ruled_store.specs.Ruled.{OfChange, AddRule, DropRule, Ruled, added, after_change, change_led, dropped, edit_led, fits_column, fits_layer, group_led, has_columns_of, has_layers_of, has_named, has_rule, has_said, place_of_rule, without_rule, rules_after, rules_max, settled, unless_broken, why_missing, with_rule}
 use Rattle.sf_ruled_store.specs.Laws.{IsKept, IsRefusedRightly, RefusalsNameBreaks, RuledStepsKeepRules}
 use Rattle.sf_ruled_store.specs.Undos.{IsSettled}
 use Rattle.sf_rules.proofs.JoinedLists.{each-append}
@@ -35,13 +37,18 @@ not_back : (b : Bool) → not b ≡ false → b ≡ true
 not_back true h = refl
 not_back false h = cc
 
-column-in : (name : List ℕ) (o : Option LayerContent) → has_column_in name o ≡ true → HasColumn name o
-column-in name None h = cc
-column-in name (Some layer) h = h
+-- where a rule's values fit a column, the column is there
+column-in : (rule : ValueRule) (o : Option LayerContent) → fits_layer rule o ≡ true → HasColumn rule.column o
+column-in rule None h = cc
+column-in rule (Some layer) h = by (column_named layer rule.column) h
+  where
+    by : (c : Option Column) → fits_column rule.demand c ≡ true → is_some c ≡ true
+    by None g = cc
+    by (Some column) g = refl
 
 said-there : (content : Content) (says : Says) → has_said content says ≡ true → HasSaid content says
 said-there content (OfLayers rule) h = let both = and_true (has_layer content rule.first) (has_layer content rule.second) h in (both.0, both.1)
-said-there content (OfValues rule) h = column-in rule.column (layer_of content rule.layer) h
+said-there content (OfValues rule) h = column-in rule (layer_of content rule.layer) h
 
 all-there : (content : Content) (rules : List Rule) → list_all (has_named content) rules ≡ true → AllByRecursion (HasNamed content) rules
 all-there content [] h = tt
@@ -98,19 +105,28 @@ adds old rule = first (is_name rule.name) refl
     fifth true is n o h = Adds (record { named = n; other = o; few = is; there = h; last = refl })
 
     fourth : (t : Bool) → has_named old.content rule ≡ t → is_name rule.name ≡ true → has_rule rule.name old.rules ≡ false
-        → AddsOr old rule (if not t then Err NoColumn else if not (nat_lt (length old.rules) rules_max) then Err TooManyRules else last)
+        → AddsOr old rule (if not t then Err WrongValue else if not (nat_lt (length old.rules) rules_max) then Err TooManyRules else last)
     fourth false is n o = Refuses (λ new g. cc) (λ broken g. cc)
     fourth true is n o = fifth (nat_lt (length old.rules) rules_max) refl n o is
 
+    -- the column is there
+    columns : (t : Bool) → is_name rule.name ≡ true → has_rule rule.name old.rules ≡ false
+        → AddsOr old rule (if not t then Err NoColumn else if not (has_named old.content rule) then Err WrongValue
+        else if not (nat_lt (length old.rules) rules_max) then Err TooManyRules else last)
+    columns false n o = Refuses (λ new g. cc) (λ broken g. cc)
+    columns true n o = fourth (has_named old.content rule) refl n o
+
     third : (t : Bool) → is_name rule.name ≡ true → has_rule rule.name old.rules ≡ false
-        → AddsOr old rule (if not t then Err NoLayer else if not (has_named old.content rule) then Err NoColumn
+        → AddsOr old rule (if not t then Err NoLayer else if not (has_columns_of old.content rule) then Err NoColumn
+        else if not (has_named old.content rule) then Err WrongValue
         else if not (nat_lt (length old.rules) rules_max) then Err TooManyRules else last)
     third false n o = Refuses (λ new g. cc) (λ broken g. cc)
-    third true n o = fourth (has_named old.content rule) refl n o
+    third true n o = columns (has_columns_of old.content rule) n o
 
     second : (t : Bool) → has_rule rule.name old.rules ≡ t → is_name rule.name ≡ true
         → AddsOr old rule (if t then Err RuleExists else if not (has_layers_of old.content rule) then Err NoLayer
-        else if not (has_named old.content rule) then Err NoColumn
+        else if not (has_columns_of old.content rule) then Err NoColumn
+        else if not (has_named old.content rule) then Err WrongValue
         else if not (nat_lt (length old.rules) rules_max) then Err TooManyRules else last)
     second true is n = Refuses (λ new g. cc) (λ broken g. cc)
     second false is n = third (has_layers_of old.content rule) n is
@@ -118,7 +134,8 @@ adds old rule = first (is_name rule.name) refl
     first : (t : Bool) → is_name rule.name ≡ t
         → AddsOr old rule (if not t then Err BadName else if has_rule rule.name old.rules then Err RuleExists
         else if not (has_layers_of old.content rule) then Err NoLayer
-        else if not (has_named old.content rule) then Err NoColumn
+        else if not (has_columns_of old.content rule) then Err NoColumn
+        else if not (has_named old.content rule) then Err WrongValue
         else if not (nat_lt (length old.rules) rules_max) then Err TooManyRules else last)
     first false is = Refuses (λ new g. cc) (λ broken g. cc)
     first true is = second (has_rule rule.name old.rules) refl is

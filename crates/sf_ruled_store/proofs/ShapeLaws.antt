@@ -4,7 +4,7 @@ use Rattle.std.specs.List.{AllByRecursion, list_all, list_any}
 use Rattle.std.specs.Map.{keys_of}
 use Rattle.sf_features.specs.Features.{FeatureContent, plain_feature}
 use Rattle.sf_layers.specs.Content.{Content, LayerContent, has_layer, layer_of}
-use Rattle.sf_rules.specs.Asked.{Ask}
+use Rattle.sf_rules.specs.Asked.{PairAsk}
 use Rattle.sf_rules.specs.Asked.{is_pair}
 use Rattle.sf_rules.specs.declared.rule.Rule.{Rule}
 use Rattle.sf_rules.specs.declared.rule.LayerRule.{LayerRule}
@@ -34,10 +34,10 @@ shapes_in content name = option_map (λ layer. shapes layer.features) (layer_of 
 abbrev pair_of : ℕ × FeatureContent → ℕ × FeatureContent → ℕ × ℕ
 pair_of a b = (a.0, b.0)
 
-abbrev row : Bool → Ask → Features → ℕ × FeatureContent → List (ℕ × ℕ)
+abbrev row : Bool → PairAsk → Features → ℕ × FeatureContent → List (ℕ × ℕ)
 row one ask seconds a = map (pair_of a) (filter (is_pair one ask a) seconds)
 
-row-shapes : (one : Bool) (ask : Ask) (seconds : Features) (a : ℕ × FeatureContent) → row one ask (shapes seconds) (shape_of a) ≡ row one ask seconds a
+row-shapes : (one : Bool) (ask : PairAsk) (seconds : Features) (a : ℕ × FeatureContent) → row one ask (shapes seconds) (shape_of a) ≡ row one ask seconds a
 row-shapes one ask [] a = refl
 row-shapes one ask (s ∷ seconds) a = by (is_pair one ask a s) (row-shapes one ask seconds a)
   where
@@ -47,13 +47,13 @@ row-shapes one ask (s ∷ seconds) a = by (is_pair one ask a s) (row-shapes one 
     by true later = ap (λ rest. (a.0, s.0) ∷ rest) later
     by false later = later
 
-rows-shapes : (one : Bool) (ask : Ask) (firsts seconds : Features) → flat_map (row one ask (shapes seconds)) (shapes firsts) ≡ flat_map (row one ask seconds) firsts
+rows-shapes : (one : Bool) (ask : PairAsk) (firsts seconds : Features) → flat_map (row one ask (shapes seconds)) (shapes firsts) ≡ flat_map (row one ask seconds) firsts
 rows-shapes one ask [] seconds = refl
 rows-shapes one ask (a ∷ firsts) seconds =
     ap (λ r. r ++ flat_map (row one ask (shapes seconds)) (shapes firsts)) (row-shapes one ask seconds a)
     ∙ ap (λ rest. row one ask seconds a ++ rest) (rows-shapes one ask firsts seconds)
 
-any-shapes : (one : Bool) (ask : Ask) (seconds : Features) (a : ℕ × FeatureContent) → list_any (is_pair one ask (shape_of a)) (shapes seconds) ≡ list_any (is_pair one ask a) seconds
+any-shapes : (one : Bool) (ask : PairAsk) (seconds : Features) (a : ℕ × FeatureContent) → list_any (is_pair one ask (shape_of a)) (shapes seconds) ≡ list_any (is_pair one ask a) seconds
 any-shapes one ask [] a = refl
 any-shapes one ask (s ∷ seconds) a = by (is_pair one ask a s) (any-shapes one ask seconds a)
   where
@@ -62,10 +62,10 @@ any-shapes one ask (s ∷ seconds) a = by (is_pair one ask a s) (any-shapes one 
     by true later = refl
     by false later = later
 
-abbrev lacks : Bool → Ask → Features → ℕ × FeatureContent → Bool
+abbrev lacks : Bool → PairAsk → Features → ℕ × FeatureContent → Bool
 lacks one ask seconds a = not (list_any (is_pair one ask a) seconds)
 
-alone-shapes : (one : Bool) (ask : Ask) (firsts seconds : Features) → keys_of (filter (lacks one ask (shapes seconds)) (shapes firsts)) ≡ keys_of (filter (lacks one ask seconds) firsts)
+alone-shapes : (one : Bool) (ask : PairAsk) (firsts seconds : Features) → keys_of (filter (lacks one ask (shapes seconds)) (shapes firsts)) ≡ keys_of (filter (lacks one ask seconds) firsts)
 alone-shapes one ask [] seconds = refl
 alone-shapes one ask (a ∷ firsts) seconds =
     ap (λ t. keys_of (cond t (shape_of a ∷ filter (lacks one ask (shapes seconds)) (shapes firsts)) (filter (lacks one ask (shapes seconds)) (shapes firsts)))) (ap not (any-shapes one ask seconds a))
@@ -78,19 +78,19 @@ alone-shapes one ask (a ∷ firsts) seconds =
     by false later = later
 
 -- what breaks a rule, by the features of its layers
-abbrev breaks_in : Form → Bool → Ask → Features → Features → List Break
+abbrev breaks_in : Form → Bool → PairAsk → Features → Features → List Break
 breaks_in Never one ask firsts seconds = map pair_break (flat_map (row one ask seconds) firsts)
 breaks_in Each one ask firsts seconds = map alone_break (keys_of (filter (lacks one ask seconds) firsts))
 
-breaks-in : (form : Form) (one : Bool) (ask : Ask) (first second : LayerContent) → breaks_between form one first ask second ≡ breaks_in form one ask first.features second.features
+breaks-in : (form : Form) (one : Bool) (ask : PairAsk) (first second : LayerContent) → breaks_between form one first ask second ≡ breaks_in form one ask first.features second.features
 breaks-in Never one ask first second = refl
 breaks-in Each one ask first second = refl
 
-breaks-shapes : (form : Form) (one : Bool) (ask : Ask) (firsts seconds : Features) → breaks_in form one ask (shapes firsts) (shapes seconds) ≡ breaks_in form one ask firsts seconds
+breaks-shapes : (form : Form) (one : Bool) (ask : PairAsk) (firsts seconds : Features) → breaks_in form one ask (shapes firsts) (shapes seconds) ≡ breaks_in form one ask firsts seconds
 breaks-shapes Never one ask firsts seconds = ap (map pair_break) (rows-shapes one ask firsts seconds)
 breaks-shapes Each one ask firsts seconds = ap (map alone_break) (alone-shapes one ask firsts seconds)
 
-same-breaks : (form : Form) (one one' : Bool) (ask : Ask) (first first' second second' : LayerContent) → one' ≡ one
+same-breaks : (form : Form) (one one' : Bool) (ask : PairAsk) (first first' second second' : LayerContent) → one' ≡ one
     → shapes first'.features ≡ shapes first.features → shapes second'.features ≡ shapes second.features
     → breaks_between form one' first' ask second' ≡ breaks_between form one first ask second
 same-breaks form one one' ask first first' second second' same firsts seconds =

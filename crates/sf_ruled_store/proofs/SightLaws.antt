@@ -23,11 +23,11 @@ use Rattle.sf_steps.specs.Steps.{add_column, checks, drop_column, edit_layer, ef
 use Rattle.sf_steps.proofs.Passes.{absent_from_not, passed, there_from_test}
 use Rattle.sf_rules.specs.declared.breaks.Break.{Break}
 use Rattle.sf_rules.specs.declared.rule.Demand.{Demand}
-use Rattle.sf_rules.specs.declared.rule.Demand.TheVariants.{Required, Unique}
+use Rattle.sf_rules.specs.declared.rule.Demand.TheVariants.{InRange, OneOf, Required, Unique}
 use Rattle.sf_rules.specs.declared.rule.ValueRule.{ValueRule}
 use Rattle.sf_rules.specs.declared.rule.Says.TheVariants.{OfValues}
-use Rattle.sf_rules.specs.Rules.{alone_break, break_in, break_of_values, break_on, breaks_in, first_of, has_value, is_double, lacks_value, pair_break}
-use Rattle.sf_ruled_store.specs.Ruled.{has_column_in}
+use Rattle.sf_rules.specs.Rules.{alone_break, break_in, break_of_values, break_on, breaks_in, first_of, has_value, has_wrong, is_double, is_wrong, pair_break}
+use Rattle.sf_ruled_store.specs.Ruled.{fits_column, fits_layer}
 use Rattle.sf_ruled_store.specs.Undos.{changes_column, ends_name, sees_said}
 use Rattle.sf_ruled_store.proofs.NameLaws.{itself, layer_of-moved, layer_of-push, layer_of-remove-other, layer_of-renamed-other, same-names, turned}
 
@@ -49,8 +49,8 @@ readings number features = map (reading_of number) features
 abbrev are_double : Reading → Reading → Bool
 are_double a b = nat_lt a.0 b.0 && option_map_or (λ value. option_map_or (same_value value) b.1 false) a.1 false
 
-abbrev lacks : Reading → Bool
-lacks a = not (is_some a.1)
+abbrev wrong_in : Demand → Reading → Bool
+wrong_in demand a = is_wrong demand a.1
 
 abbrev numbers_with : ℕ → List Reading → List (ℕ × ℕ)
 numbers_with i others = map (λ (b : Reading). (i, b.0)) others
@@ -76,23 +76,28 @@ rows-read number (a ∷ firsts) es =
     ap (λ r. r ++ flat_map (λ (b : Reading). numbers_with b.0 (filter (are_double b) (readings number es))) (readings number firsts)) (row-reads number a es)
     ∙ ap (λ rest. numbers_of a.0 (filter (is_double number a) es) ++ rest) (rows-read number firsts es)
 
-alone-reads : (number : ℕ) (es : Features) → keys_of (filter lacks (readings number es)) ≡ keys_of (filter (lacks_value number) es)
-alone-reads number [] = refl
-alone-reads number (e ∷ es) = by (lacks_value number e) (alone-reads number es)
+alone-reads : (demand : Demand) (number : ℕ) (es : Features) → keys_of (filter (wrong_in demand) (readings number es)) ≡ keys_of (filter (has_wrong demand number) es)
+alone-reads demand number [] = refl
+alone-reads demand number (e ∷ es) = by (has_wrong demand number e) (alone-reads demand number es)
   where
-    by : (t : Bool) → keys_of (filter lacks (readings number es)) ≡ keys_of (filter (lacks_value number) es)
-        → keys_of (cond t (reading_of number e ∷ filter lacks (readings number es)) (filter lacks (readings number es))) ≡ keys_of (cond t (e ∷ filter (lacks_value number) es) (filter (lacks_value number) es))
+    read : List Reading
+    read = filter (wrong_in demand) (readings number es)
+
+    by : (t : Bool) → keys_of read ≡ keys_of (filter (has_wrong demand number) es)
+        → keys_of (cond t (reading_of number e ∷ read) read) ≡ keys_of (cond t (e ∷ filter (has_wrong demand number) es) (filter (has_wrong demand number) es))
     by true later = ap (λ rest. e.0 ∷ rest) later
     by false later = later
 
 -- what breaks a rule, by the readings
 abbrev breaks_by : Demand → List Reading → List Break
 breaks_by Unique rs = map pair_break (flat_map (λ (a : Reading). numbers_with a.0 (filter (are_double a) rs)) rs)
-breaks_by Required rs = map alone_break (keys_of (filter lacks rs))
+breaks_by demand rs = map alone_break (keys_of (filter (wrong_in demand) rs))
 
 breaks-read : (demand : Demand) (number : ℕ) (layer : LayerContent) → breaks_by demand (readings number layer.features) ≡ breaks_in demand number layer
 breaks-read Unique number layer = ap (map pair_break) (rows-read number layer.features layer.features)
-breaks-read Required number layer = ap (map alone_break) (alone-reads number layer.features)
+breaks-read Required number layer = ap (map alone_break) (alone-reads Required number layer.features)
+breaks-read (OneOf allowed) number layer = ap (map alone_break) (alone-reads (OneOf allowed) number layer.features)
+breaks-read (InRange range) number layer = ap (map alone_break) (alone-reads (InRange range) number layer.features)
 
 -- ---- a layer that keeps a column
 
@@ -311,10 +316,10 @@ module _ (content : Content) (rule : ValueRule) (a : LayerContent) (column : Col
       feature-kept id (without_value (number_in content n other)) (λ f.
       lookup-remove_entry-other column.number (number_in content n other) f.values (number-apart n other is (or_left (bytes_eq rule.column other) (unseen-here (ClearValue n id other) unseen is)))))
 
--- such a rule is broken then as it was before, and its layer and column are there
+-- such a rule is broken then as it was before, and what it names is there and fits as it did
 pub values-alike : (old new : Content) (rule : ValueRule) (a : LayerContent) (column : Column) → layer_of old rule.layer ≡ Some a → column_named a rule.column ≡ Some column → IsKeptIn new rule a column
-    → (break_of_values new rule ≡ break_of_values old rule) × (has_column_in rule.column (layer_of new rule.layer) ≡ has_column_in rule.column (layer_of old rule.layer))
+    → (break_of_values new rule ≡ break_of_values old rule) × (fits_layer rule (layer_of new rule.layer) ≡ fits_layer rule (layer_of old rule.layer))
 values-alike old new rule a column found named_so kept = (
   ap (break_on rule) kept.found ∙ break-kept rule.demand a kept.layer rule.column column named_so kept.keeps ∙ sym (ap (break_on rule) found),
-  ap (has_column_in rule.column) kept.found ∙ ap is_some (kept.keeps.there ∙ sym named_so) ∙ sym (ap (has_column_in rule.column) found),
+  ap (fits_layer rule) kept.found ∙ ap (fits_column rule.demand) (kept.keeps.there ∙ sym named_so) ∙ sym (ap (fits_layer rule) found),
 )

@@ -4,3 +4,4 @@ pub mod Outcomes
 pub mod Undos
 pub mod Stepped
 pub mod Ruling
+pub mod InPlace

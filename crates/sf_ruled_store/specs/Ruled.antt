@@ -1,6 +1,8 @@
 -- Contents with the rules that hold in them, and their steps. A step is refused in the order of these checks.
-use Rattle.std.specs.Prelude.{ℕ, Bool, false, not, ◌&&◌, List, [], ◌∷◌, ◌++◌, length, map, position, remove, is_some, Option, None, Some, Result, Ok, Err, bytes_eq, nat_lt, if◌then◌else◌}
+use Rattle.std.specs.Prelude.{ℕ, Bool, true, false, not, ◌&&◌, List, [], ◌∷◌, ◌++◌, length, map, position, remove, is_some, Option, None, Some, Result, Ok, Err, bytes_eq, nat_lt, if◌then◌else◌}
 use Rattle.std.specs.List.{list_all}
+use Rattle.std.specs.Option.{option_map_or}
+use Rattle.sf_features.specs.declared.column.Column.{Column}
 use Rattle.sf_changes.specs.Changes.{Change, OfEdit, OfGroup}
 use Rattle.sf_steps.specs.declared.edit.Edit.TheVariants.{RenameLayer}
 use Rattle.sf_steps.specs.declared.answer.Answer.{Answer}
@@ -9,13 +11,15 @@ use Rattle.sf_groups.specs.Members.{together, Refused}
 use Rattle.sf_features.specs.Names.{is_name}
 use Rattle.sf_steps.specs.declared.refusal.Refusal.{Refusal as EditRefusal}
 use Rattle.sf_ruled_store.specs.declared.refusal.Refusal.{Refusal}
-use Rattle.sf_ruled_store.specs.declared.refusal.Refusal.TheVariants.{ByEdit, ByMember, RuleBroken, NoRule, RuleExists, LayerRuled, ColumnRuled, BadName, NoLayer, NoColumn, TooManyRules}
+use Rattle.sf_ruled_store.specs.declared.refusal.Refusal.TheVariants.{ByEdit, ByMember, RuleBroken, NoRule, RuleExists, LayerRuled, ColumnRuled, BadName, NoLayer, NoColumn, WrongValue, TooManyRules}
 use Rattle.sf_layers.specs.Content.{Content, LayerContent, column_named, has_layer, layer_of}
 use Rattle.sf_rules.specs.declared.rule.Rule.{Rule}
+use Rattle.sf_rules.specs.declared.rule.Demand.{Demand}
 use Rattle.sf_rules.specs.declared.rule.Says.{Says}
+use Rattle.sf_rules.specs.declared.rule.ValueRule.{ValueRule}
 use Rattle.sf_rules.specs.declared.rule.Says.TheVariants.{OfLayers, OfValues}
 use Rattle.sf_rules.specs.declared.breaks.Broken.{Broken}
-use Rattle.sf_rules.specs.Rules.{break_of, broken_or, first_broken}
+use Rattle.sf_rules.specs.Rules.{break_of, broken_or, first_broken, fits_type}
 
 -- a content with rules, in the order in which they were added
 pub record Ruled : Type 0 where
@@ -66,11 +70,26 @@ abbrev pub has_column_in : List ℕ → Option LayerContent → Bool
 has_column_in name None = false
 has_column_in name (Some layer) = is_some (column_named layer name)
 
+abbrev pub has_columns_said : Content → Says → Bool
+has_columns_said content (OfLayers rule) = true
+has_columns_said content (OfValues rule) = has_column_in rule.column (layer_of content rule.layer)
+
+-- whether the column of a rule on values is there
+abbrev pub has_columns_of : Content → Rule → Bool
+has_columns_of content rule = has_columns_said content rule.says
+
+-- whether a column is there, and may be demanded this of
+abbrev pub fits_column : Demand → Option Column → Bool
+fits_column demand column = option_map_or (λ named. fits_type named.column_type demand) column false
+
+abbrev pub fits_layer : ValueRule → Option LayerContent → Bool
+fits_layer rule layer = option_map_or (λ there. fits_column rule.demand (column_named there rule.column)) layer false
+
 abbrev pub has_said : Content → Says → Bool
 has_said content (OfLayers rule) = has_layer content rule.first && has_layer content rule.second
-has_said content (OfValues rule) = has_column_in rule.column (layer_of content rule.layer)
+has_said content (OfValues rule) = fits_layer rule (layer_of content rule.layer)
 
--- whether all that a rule names is there: its layers, or its layer and the column
+-- whether all that a rule names is there, its layers, or its layer and the column, and the values that it names fit the column
 abbrev pub has_named : Content → Rule → Bool
 has_named content rule = has_said content rule.says
 
@@ -126,7 +145,8 @@ added old rule =
     if not (is_name rule.name) then Err BadName
     else if has_rule rule.name old.rules then Err RuleExists
     else if not (has_layers_of old.content rule) then Err NoLayer
-    else if not (has_named old.content rule) then Err NoColumn
+    else if not (has_columns_of old.content rule) then Err NoColumn
+    else if not (has_named old.content rule) then Err WrongValue
     else if not (nat_lt (length old.rules) rules_max) then Err TooManyRules
     else unless_broken (with_rule old rule) (broken_or (length old.rules) (break_of old.content rule) None)
 

@@ -13,6 +13,7 @@ ghost use Rattle.sf_ruled_store.specs.declared.undo.Undo.TheVariants as undos;
 ghost use Rattle.sf_ruled_store.specs.Outcomes.{IsRefusedAs, answer_of as answer_of_ids, by_edit as by_edit_of, ruled};
 ghost use Rattle.sf_ruled_store.specs.Undos.{IsEdited, IsGrouped, IsSettled, IsUnseen, alone, is_renaming, is_seen};
 
+use super::in_place::{carry_out_in_place, is_in_place};
 use super::refusal::{Refusal, as_edit, as_member, by_edit, by_member, by_rules};
 use super::rules::Rules;
 use super::undo::Undo;
@@ -124,7 +125,7 @@ pub(crate) fn carry_out_unseen(
 }
 
 /// An edit that was carried out, and that this takes back.
-fn accepted(inverse: Inverse) -> Edited
+pub(crate) fn accepted(inverse: Inverse) -> Edited
     ensures { result ≡ record { answer = inverse_answer inverse; undo = undos.Change (changes.Edit inverse) } }
 {
     Edited {
@@ -133,16 +134,36 @@ fn accepted(inverse: Inverse) -> Edited
     }
 }
 
-/// Why an edit was given back. It is dropped here, so that `carry_out_unseen` has no place for it.
-fn refusal_of(given_back: (Edit, sf_steps::Refusal)) -> Refusal
+/// Why an edit was given back. It is dropped here, so that those who carry it out have no place for it.
+pub(crate) fn refusal_of(given_back: (Edit, sf_steps::Refusal)) -> Refusal
     ensures { result ≡ by_edit_of given_back.1 }
 {
     let (_, refusal) = given_back;
     by_edit(refusal)
 }
 
-/// Carries out an edit of a feature that a rule sees: as a group of one.
+/// Carries out an edit of a feature that a rule sees: in place where it can be, else as a group of one.
 fn carry_out_seen(
+    alloc: Global,
+    store: &mut Store,
+    rules: &Rules,
+    edit: Edit,
+) -> Result<Edited, Refusal>
+    requires settled { IsSettled (ruled store.old rules.now) }
+    requires of_features { is_edit_of_features edit ≡ true }
+    ensures accepted { IfOk result (λ done.
+        IsEdited (ruled store.old rules.now) edit done.answer done.undo (ruled store.new rules.now)) }
+    ensures refused { IfErr result (IsRefusedAs (ruled_step (ruled store.old rules.now) (OfChange (OfEdit edit)))) }
+    ensures unchanged { OnErr result (store.new ≡ store.old) }
+{
+    if is_in_place(rules, &edit) {
+        return carry_out_in_place(alloc, store, rules, edit);
+    }
+    carry_out_as_group(alloc, store, rules, edit)
+}
+
+/// Carries out an edit of a feature as a group of one.
+fn carry_out_as_group(
     alloc: Global,
     store: &mut Store,
     rules: &Rules,
@@ -339,7 +360,7 @@ fn answer_of(ids: &[u32]) -> Answer
 }
 
 /// Shows a proof that a store is well formed. It does nothing, so a compiler may leave it out.
-fn is_well_formed(store: &Store)
+pub(crate) fn is_well_formed(store: &Store)
     ensures { IsWellFormed store.now }
 {
     store.layer_count();

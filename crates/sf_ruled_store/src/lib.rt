@@ -2,6 +2,7 @@
 #![tactic(auto)]
 
 mod edits;
+mod in_place;
 pub mod laws;
 mod redo;
 mod redoing;
@@ -17,6 +18,8 @@ pub use refusal::Refusal;
 pub use ruled::Ruled;
 pub use rules::{RULES_MAX, Rules};
 pub use sf_groups::Group;
-pub use sf_rules::{Ask, Break, Demand, Form, LayerRule, Rule, Says, ValueRule};
+pub use sf_rules::{
+    AllowedValues, Ask, Break, Demand, Form, LayerRule, PairAsk, Rule, Says, VALUES_MAX, ValueRule,
+};
 pub use sf_steps::{Answer, Edit};
 pub use undo::Undo;

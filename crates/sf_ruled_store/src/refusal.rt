@@ -31,6 +31,8 @@ pub enum Refusal {
     NoLayer,
     /// No column of the layer has the name.
     NoColumn,
+    /// The values that a rule names are none of the column's type, too many, or a range with nothing in it.
+    WrongValue,
     /// There are as many rules as there can be.
     TooManyRules,
     /// No memory was found.

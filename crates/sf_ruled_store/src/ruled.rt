@@ -14,7 +14,7 @@ use super::rules::Rules;
 use super::undo::Undo;
 use sf_groups::Group;
 use sf_layers::Store;
-use sf_rules::{Rule, make_index};
+use sf_rules::Rule;
 use sf_steps::Edit;
 use std::alloc::Global;
 use std::marker::Model;
@@ -118,24 +118,6 @@ impl Ruled {
     ///
     /// Those of `Rules::add`. The rule is given back, and nothing is changed then.
     pub fn add_rule(&mut self, alloc: Global, rule: Rule) -> Result<Undo, (Rule, Refusal)>
-        ensures accepted { IfOk result (λ undo. IsLed self.old (ruled_step self.old (AddRule rule)) undo self.new) }
-        ensures refused { IfErr result (λ e. IsRefusedAs (ruled_step self.old (AddRule rule)) e.1) }
-        ensures given_back { IfErr result (λ e. e.0 ≡ rule) }
-        ensures unchanged { OnErr result (self.new ≡ self.old) }
-    {
-        self.make_index(alloc, &rule);
-        self.add_looked_up(alloc, rule)
-    }
-
-    // Makes the index that a rule looks into, where there is none.
-    fn make_index(&mut self, alloc: Global, rule: &Rule)
-        ensures { self.new ≡ self.old }
-    {
-        make_index(alloc, &mut self.store, rule);
-    }
-
-    // Adds a rule, whatever indexes there are.
-    fn add_looked_up(&mut self, alloc: Global, rule: Rule) -> Result<Undo, (Rule, Refusal)>
         ensures accepted { IfOk result (λ undo. IsLed self.old (ruled_step self.old (AddRule rule)) undo self.new) }
         ensures refused { IfErr result (λ e. IsRefusedAs (ruled_step self.old (AddRule rule)) e.1) }
         ensures given_back { IfErr result (λ e. e.0 ≡ rule) }

@@ -3,13 +3,14 @@
 ghost use Rattle.std.specs.Prelude.{◌≡◌, ◌≤◌, ◌<◌, ◌-◌, ◌&&◌, ◌||◌, ◌++◌, ◌∷◌, [], Err, IfErr, IfNone, IfOk, IfSome, Ok, OnErr, OnOk, bytes_eq, insert, length, map, option_copied, remove, slice_get, Some, take};
 ghost use Rattle.sf_layers.specs.Content.{Content, has_layer};
 ghost use Rattle.sf_rules.specs.declared.rule.Says.TheVariants.{OfLayers, OfValues};
-ghost use Rattle.sf_ruled_store.specs.Ruled.{AddRule, DropRule, added, has_column_in, has_layers_said, has_said, place_of_rule, renamed, renamed_said, ruled_step, with_renamed, with_rule};
+ghost use Rattle.sf_ruled_store.specs.Ruled.{AddRule, DropRule, added, fits_column as fits_column_of, fits_layer as fits_layer_of, has_column_in, has_columns_said, has_layers_said, has_said, place_of_rule, renamed, renamed_said, ruled_step, with_renamed, with_rule};
+ghost use Rattle.sf_ruled_store.specs.InPlace.{is_seen_between, sees_between as sees_between_of};
 ghost use Rattle.sf_ruled_store.specs.Outcomes.{IsRefusedAs, ruled};
 ghost use Rattle.sf_ruled_store.specs.Undos.{changes_column as changes_column_of, changes_geometries as changes_geometries_of, ends_name as ends_name_of, is_seen, sees as sees_edit};
 
 use super::refusal::Refusal;
-use sf_layers::{Layer, Store, Text, is_name};
-use sf_rules::{Broken, LayerRule, Rule, Says, ValueRule, first_break, has_index};
+use sf_layers::{Column, Layer, Store, Text, is_name};
+use sf_rules::{Broken, Demand, LayerRule, Rule, Says, ValueRule, first_break};
 use sf_steps::Edit;
 use std::alloc::{AllocError, Global};
 use std::marker::Model;
@@ -65,6 +66,13 @@ impl Rules {
         self.as_slice().iter().any(|rule| sees(rule, edit))
     }
 
+    /// Whether a rule between layers sees an edit.
+    pub(crate) fn see_between(&self, edit: &Edit) -> bool
+        ensures { result ≡ is_seen_between edit.now self.now }
+    {
+        self.as_slice().iter().any(|rule| sees_between(rule, edit))
+    }
+
     /// The rules with another name for a layer, each copied.
     ///
     /// # Errors
@@ -89,8 +97,8 @@ impl Rules {
     ///
     /// # Errors
     ///
-    /// In this order: `BadName`, `RuleExists`, `NoLayer` of a layer that it names, `NoColumn`, `TooManyRules`, and `RuleBroken` with
-    /// what breaks it first; out of memory in the place of any. The rule is given back, and nothing is changed then.
+    /// In this order: `BadName`, `RuleExists`, `NoLayer` of a layer that it names, `NoColumn`, `WrongValue`, `TooManyRules`, and `RuleBroken`
+    /// with what breaks it first; out of memory in the place of any. The rule is given back, and nothing is changed then.
     pub fn add(&mut self, alloc: Global, store: &Store, rule: Rule) -> Result<(), (Rule, Refusal)>
         ensures added { OnOk result (self.new ≡ self.old ++ rule ∷ []) }
         ensures accepted { OnOk result
@@ -184,16 +192,15 @@ impl Rules {
         if !has_layers(store, &rule.says) {
             return Err(Refusal::NoLayer);
         }
-        if !has_named(store, &rule.says) {
+        if !has_columns(store, &rule.says) {
             return Err(Refusal::NoColumn);
+        }
+        if !has_named(store, &rule.says) {
+            return Err(Refusal::WrongValue);
         }
         let place = self.as_slice().len();
         if place >= RULES_MAX {
             return Err(Refusal::TooManyRules);
-        }
-        // Without its index a rule takes a pass over its layer for each feature.
-        if !has_index(store, rule) {
-            return Err(Refusal::Memory);
         }
         match first_break(alloc, store, rule)? {
             None => Ok(()),
@@ -219,13 +226,43 @@ fn has_both(store: &Store, rule: &LayerRule) -> bool
     store.layer(rule.first.as_str()).is_some() && store.layer(rule.second.as_str()).is_some()
 }
 
-/// Whether all that a rule names is there: its layers, or its layer and the column.
+/// Whether the column of a rule on values is there.
+fn has_columns(store: &Store, says: &Says) -> bool
+    ensures { result ≡ has_columns_said store.now says.now }
+{
+    match says {
+        Says::OfLayers(_) => true,
+        Says::OfValues(rule) => has_column(store.layer(rule.layer.as_str()), rule.column.as_str()),
+    }
+}
+
+/// Whether all that a rule names is there, its layers, or its layer and the column, and the values that it names fit the column.
 fn has_named(store: &Store, says: &Says) -> bool
     ensures { result ≡ has_said store.now says.now }
 {
     match says {
         Says::OfLayers(rule) => has_both(store, rule),
-        Says::OfValues(rule) => has_column(store.layer(rule.layer.as_str()), rule.column.as_str()),
+        Says::OfValues(rule) => fits_layer(rule, store.layer(rule.layer.as_str())),
+    }
+}
+
+/// Whether a layer is there, has the column of the rule, and that may be demanded of it.
+fn fits_layer(rule: &ValueRule, layer: Option<&Layer>) -> bool
+    ensures { result ≡ fits_layer_of rule.now (option_copied layer.entry) }
+{
+    match layer {
+        Some(layer) => fits_column(&rule.demand, layer.column(rule.column.as_str())),
+        None => false,
+    }
+}
+
+/// Whether a column is there, and may be demanded this of.
+fn fits_column(demand: &Demand, column: Option<&Column>) -> bool
+    ensures { result ≡ fits_column_of demand.now (option_copied column.entry) }
+{
+    match column {
+        Some(column) => demand.fits(column.column_type),
+        None => false,
     }
 }
 
@@ -271,6 +308,16 @@ fn changes_values(edit: &Edit, column: &str) -> bool
     ensures { result ≡ (changes_column_of column.now edit.now || ends_name_of edit.now) }
 {
     changes_column(edit, column) || ends_name(edit)
+}
+
+/// Whether a rule is one between layers, and sees an edit.
+fn sees_between(rule: &Rule, edit: &Edit) -> bool
+    ensures { result ≡ sees_between_of edit.now rule.now.says }
+{
+    match &rule.says {
+        Says::OfLayers(rule) => is_of(rule, edit.layer_name().as_str()) && changes_shapes(edit),
+        Says::OfValues(_) => false,
+    }
 }
 
 /// Whether an edit puts a geometry into its layer, changes one or removes one.
@@ -384,7 +431,7 @@ fn value_rule_renamed(
     ensures { IfOk result (λ copy. OfValues copy ≡ renamed_said layer.now new_name.now (OfValues rule.now)) }
 {
     Ok(ValueRule {
-        demand: rule.demand,
+        demand: rule.demand.copy(alloc)?,
         layer: copy_unless_renamed(alloc, &rule.layer, layer, new_name)?,
         column: rule.column.copy(alloc)?,
     })

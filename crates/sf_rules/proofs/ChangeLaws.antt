@@ -11,7 +11,7 @@ use Rattle.sf_rules.specs.declared.breaks.Break.{Break}
 use Rattle.sf_rules.specs.declared.breaks.Break.TheVariants.{Pair, Alone}
 use Rattle.sf_rules.specs.Breaks.{is_before, least_from}
 use Rattle.sf_rules.specs.Rules.{alone_break, first_of, pair_break}
-use Rattle.sf_query.proofs.FilterLaws.{rising-filter}
+use Rattle.sf_joins.proofs.Passed.{rising-filter}
 use Rattle.sf_joins.proofs.PairLaws.{map-contains, flat-rises, row-begins, row-rises}
 use Rattle.sf_rules.proofs.LeastLaws.{BeginsWithLeast, least-first}
 use Rattle.sf_rules.proofs.EntryLaws.{ArePair, pairs_of, pair-found, pair-of, alone_of, alone-found, lacks, any-found, any-of, none-passes}

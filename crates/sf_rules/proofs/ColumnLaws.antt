@@ -1,12 +1,13 @@
 -- What breaks a rule on values first is among what is looked at.
-use Rattle.std.proofs.Common.{◌≡◌, ◌∙◌, ◌⊎◌, inl, inr, ℕ, ◌<◌, Bool, true, false, cond, not, ◌&&◌, ◌||◌, List, [], ◌∷◌, ◌++◌, map, flat_map, filter, Option, None, Some, is_some, slice_get, nat_eq, nat_lt, refl, ap, sym, subst, arith}
+use Rattle.std.proofs.Common.{◌≡◌, ◌∙◌, ◌⊎◌, inl, inr, ℕ, ◌<◌, Bool, true, false, cond, not, ◌&&◌, ◌||◌, List, [], ◌∷◌, ◌++◌, map, flat_map, filter, Option, None, Some, is_some, slice_get, nat_eq, nat_lt, bytes_eq, refl, ap, sym, subst, arith}
 use Rattle.std.specs.Prelude.{if◌then◌else◌}
-use Rattle.std.specs.List.{Contains, find, list_any}
+use Rattle.std.specs.List.{Contains, list_any}
 use Rattle.std.specs.List.Sorted.{IsStrictlySortedBy}
 use Rattle.std.specs.Map.{keys_of, lookup}
-use Rattle.std.specs.Option.{option_map, option_map_or}
+use Rattle.std.specs.Option.{option_and_then, option_map_or}
 use Rattle.std.specs.Ordering.{nat_cmp}
 use Rattle.std.proofs.lemmas.Bool.{eq-eqb, eqb-true}
+use Rattle.std.proofs.lemmas.List.{append-nil}
 use Rattle.std.proofs.lemmas.Bool.Decides.{nat_tests}
 use Rattle.sf_features.specs.declared.attr_value.AttrValue.{AttrValue}
 use Rattle.sf_features.specs.declared.column.Column.{Column}
@@ -14,30 +15,29 @@ use Rattle.sf_features.specs.Columns.{named}
 use Rattle.sf_features.specs.Features.{FeatureContent, value_in}
 use Rattle.sf_features.specs.Values.{same_value}
 use Rattle.sf_features.proofs.SameLaws.{same-itself, same-value}
-use Rattle.sf_layers.specs.Content.{Content, LayerContent, column_named, column_place, feature_of, layer_at, layer_of, place_of}
+use Rattle.sf_layers.specs.Content.{Content, LayerContent, column_named, column_place, feature_in, feature_of, layer_at, layer_of, place_of}
 use Rattle.sf_layers.specs.Found.{ids_with_value}
 use Rattle.sf_layers.specs.WellFormed.{IsWellFormed}
-use Rattle.sf_layers.proofs.Columns.{column_at_place}
-use Rattle.sf_patches.specs.Merged.{is_of_id}
+use Rattle.sf_patches.specs.Merged.{HaveOneOrder, is_of_id}
 use Rattle.sf_patches.specs.Patches.{patched}
 use Rattle.sf_patches.specs.declared.slot.Slot.{Slot}
 use Rattle.sf_patches.specs.declared.slot.Slot.TheVariants.{Counter, State}
 use Rattle.sf_patches.proofs.TakenBack.{IsWellFormed-patched}
-use Rattle.sf_query.proofs.FilterLaws.{found-passes, passes-found, rising-filter}
-use Rattle.sf_query.proofs.QueryLaws.{layer-fits}
+use Rattle.sf_joins.proofs.Passed.{found-passes, passes-found, rising-filter}
+use Rattle.sf_joins.proofs.Passed.{layer-fits}
 use Rattle.sf_joins.proofs.PairLaws.{contains-cons, contains-filter, contains-flat, contains-here, contains-map, filter-contains, flat-contains, map-contains}
 use Rattle.sf_rules.specs.declared.breaks.Break.{Break}
 use Rattle.sf_rules.specs.declared.breaks.Break.TheVariants.{Alone, Pair}
 use Rattle.sf_rules.specs.declared.column.InColumn.{InColumn}
 use Rattle.sf_rules.specs.declared.rule.Demand.{Demand}
-use Rattle.sf_rules.specs.declared.rule.Demand.TheVariants.{Required, Unique}
+use Rattle.sf_rules.specs.declared.rule.Demand.TheVariants.{InRange, OneOf, Required, Unique}
 use Rattle.sf_rules.specs.declared.rule.ValueRule.{ValueRule}
 use Rattle.sf_rules.specs.Breaks.{least_from}
-use Rattle.sf_rules.specs.ColumnLooks.{IsInColumn, IsInLayerOrMissing, double_of, doubles_behind, doubles_beside, is_other, lacking_by, values_behind, values_beside, values_looked_at, values_of_entry, values_of_slot, values_of_some}
+use Rattle.sf_rules.specs.ColumnLooks.{IsInColumn, IsInLayerOrMissing, double_of, doubles_beside, is_other, values_at, values_beside, values_looked_at, values_of_slot, values_of_some, wrong_by, wrong_of_entry}
 use Rattle.sf_rules.specs.Leaving.{is_leaving}
 use Rattle.sf_rules.specs.Looks.{staying}
-use Rattle.sf_rules.specs.Rules.{alone_break, break_in, break_of_values, break_on, breaks_in, doubles_found, first_of, has_value, is_double, lacks_value, pair_break}
-use Rattle.sf_rules.specs.Underway.{CanLeave, ComesOf}
+use Rattle.sf_rules.specs.Rules.{alone_break, break_in, break_of_values, break_on, breaks_in, doubles_found, first_of, has_value, has_wrong, is_double, is_wrong, pair_break}
+use Rattle.sf_rules.specs.Underway.{CanLeave, ComesOf, DiffersAt}
 use Rattle.sf_rules.proofs.ChangeLaws.{alone-begin, first-pair}
 use Rattle.sf_rules.proofs.EntryLaws.{ArePair, member, none-passes, pair-of, pairs_of, there}
 use Rattle.sf_rules.proofs.LeastLaws.{least-first}
@@ -262,50 +262,57 @@ module _ (column : InColumn) (old new : LayerContent) (made : List Slot) (beside
       first-pair (is_double column.number) old.features old.features new.features new.features changed changed (values_looked_at Unique column made) beside.new_rising beside.new_rising keeps keeps none
       doubles-sound doubles-complete
 
-  -- ---- a feature without a value
+  -- ---- a feature that breaks the rule by itself
 
-  lacking : List Break
-  lacking = map alone_break (keys_of (filter (lacks_value column.number) new.features))
+  wrongs : Demand → List Break
+  wrongs demand = map alone_break (keys_of (filter (has_wrong demand column.number) new.features))
 
-  is-lacking : (i : ℕ) (a : FeatureContent) → feature_of new i ≡ Some a → value_in column.number a ≡ None → Contains lacking (Alone i)
-  unfolding lacking
-  is-lacking i a stands none =
-      contains-map alone_break (keys_of (filter (lacks_value column.number) new.features)) i
-      (contains-map (λ (e : ℕ × FeatureContent). e.0) (filter (lacks_value column.number) new.features) (i, a)
-      (contains-filter (lacks_value column.number) new.features (i, a) (member new.features i a stands) (ap (λ (o : Option AttrValue). not (is_some o)) none)))
+  is-wrong-there : (demand : Demand) (i : ℕ) (a : FeatureContent) → feature_of new i ≡ Some a → is_wrong demand (value_in column.number a) ≡ true → Contains (wrongs demand) (Alone i)
+  unfolding wrongs
+  is-wrong-there demand i a stands is =
+      contains-map alone_break (keys_of (filter (has_wrong demand column.number) new.features)) i
+      (contains-map (λ (e : ℕ × FeatureContent). e.0) (filter (has_wrong demand column.number) new.features) (i, a)
+      (contains-filter (has_wrong demand column.number) new.features (i, a) (member new.features i a stands) is))
 
-  lacking-sound : (x : Break) → Contains (values_looked_at Required column made) x → Contains lacking x
-  lacking-sound x c = let o = looked-from Required x c in by o.id o.feature o.stands (value_in column.number o.feature) refl o.of
+  wrongs-sound : (demand : Demand) → ((i : ℕ) (v : Option AttrValue) → values_beside demand column i v ≡ wrong_by demand i v)
+      → (x : Break) → Contains (values_looked_at demand column made) x → Contains (wrongs demand) x
+  wrongs-sound demand alone x c =
+      let o = looked-from demand x c in
+      by o.id o.feature o.stands (is_wrong demand (value_in column.number o.feature)) refl
+      (subst (λ bs. Contains bs x) (alone o.id (value_in column.number o.feature)) o.of)
     where
-      only : (y : Break) → (y ≡ x) ⊎ Contains [] x → Contains lacking y → Contains lacking x
-      only y (inl same) h = subst (Contains lacking) same h
+      only : (y : Break) → (y ≡ x) ⊎ Contains [] x → Contains (wrongs demand) y → Contains (wrongs demand) x
+      only y (inl same) h = subst (Contains (wrongs demand)) same h
       only y (inr wrong) h = absurd (none-in x wrong)
 
-      by : (i : ℕ) (a : FeatureContent) → feature_of new i ≡ Some a → (v : Option AttrValue) → value_in column.number a ≡ v → Contains (lacking_by i v) x → Contains lacking x
-      by i a stands None is d = only (Alone i) (contains-cons (Alone i) [] x d) (is-lacking i a stands is)
-      by i a stands (Some value) is d = absurd (none-in x d)
+      by : (i : ℕ) (a : FeatureContent) → feature_of new i ≡ Some a → (t : Bool) → is_wrong demand (value_in column.number a) ≡ t → Contains (if t then Alone i ∷ [] else []) x
+          → Contains (wrongs demand) x
+      by i a stands true is d = only (Alone i) (contains-cons (Alone i) [] x d) (is-wrong-there demand i a stands is)
+      by i a stands false is d = absurd (none-in x d)
 
-  pub lacking-looked : filter (lacks_value column.number) old.features ≡ [] → least_from None (values_looked_at Required column made) ≡ first_of (map alone_break (keys_of (filter (lacks_value column.number) new.features)))
-  unfolding lacking
-  lacking-looked none =
-      least-first (values_looked_at Required column made) lacking (alone-begin (keys_of (filter (lacks_value column.number) new.features)) (rising-filter (lacks_value column.number) new.features beside.new_rising))
-      lacking-sound from
+  pub wrongs-looked : (demand : Demand) → ((i : ℕ) (v : Option AttrValue) → values_beside demand column i v ≡ wrong_by demand i v)
+      → filter (has_wrong demand column.number) old.features ≡ []
+      → least_from None (values_looked_at demand column made) ≡ first_of (map alone_break (keys_of (filter (has_wrong demand column.number) new.features)))
+  unfolding wrongs
+  wrongs-looked demand alone none =
+      least-first (values_looked_at demand column made) (wrongs demand)
+      (alone-begin (keys_of (filter (has_wrong demand column.number) new.features)) (rising-filter (has_wrong demand column.number) new.features beside.new_rising))
+      (wrongs-sound demand alone) from
     where
-      by : (i : ℕ) (a : FeatureContent) → feature_of new i ≡ Some a → lacks_value column.number (i, a) ≡ true → (t : Bool) → changed i ≡ t → Contains (values_looked_at Required column made) (Alone i)
-      by i a stands lacks true is = looked Required i a stands is (Alone i) (at (value_in column.number a) lacks)
-        where
-          at : (v : Option AttrValue) → not (is_some v) ≡ true → Contains (lacking_by i v) (Alone i)
-          at None h = contains-here (Alone i) []
-          at (Some value) h = cc
-      by i a stands lacks false is =
-          let wrong : true ≡ false = sym lacks ∙ none-passes (lacks_value column.number) old.features i a none (sym (keeps i is) ∙ stands) in cc
+      by : (i : ℕ) (a : FeatureContent) → feature_of new i ≡ Some a → has_wrong demand column.number (i, a) ≡ true → (t : Bool) → changed i ≡ t → Contains (values_looked_at demand column made) (Alone i)
+      by i a stands is true change =
+          looked demand i a stands change (Alone i)
+          (subst (λ bs. Contains bs (Alone i)) (sym (alone i (value_in column.number a)))
+          (subst (λ t. Contains (if t then Alone i ∷ [] else []) (Alone i)) (sym is) (contains-here (Alone i) [])))
+      by i a stands is false change =
+          let wrong : true ≡ false = sym is ∙ none-passes (has_wrong demand column.number) old.features i a none (sym (keeps i change) ∙ stands) in cc
 
-      from : (x : Break) → Contains lacking x → Contains (values_looked_at Required column made) x
+      from : (x : Break) → Contains (wrongs demand) x → Contains (values_looked_at demand column made) x
       from x c =
-          let i = map-contains alone_break (keys_of (filter (lacks_value column.number) new.features)) x c in
-          let e = map-contains (λ (e : ℕ × FeatureContent). e.0) (filter (lacks_value column.number) new.features) i.0 i.1 in
-          let kept = filter-contains (lacks_value column.number) new.features e.0 e.1 in
-          subst (Contains (values_looked_at Required column made)) (ap alone_break e.2 ∙ i.2)
+          let i = map-contains alone_break (keys_of (filter (has_wrong demand column.number) new.features)) x c in
+          let e = map-contains (λ (e : ℕ × FeatureContent). e.0) (filter (has_wrong demand column.number) new.features) i.0 i.1 in
+          let kept = filter-contains (has_wrong demand column.number) new.features e.0 e.1 in
+          subst (Contains (values_looked_at demand column made)) (ap alone_break e.2 ∙ i.2)
           (by e.0.0 e.0.1 (there new.features e.0 beside.new_rising kept.0) kept.1 (changed e.0.0) refl)
 
 -- ---- the law
@@ -317,6 +324,24 @@ no-first f (x ∷ xs) h = cc
 no-keys : {X : Type 0} (es : List (ℕ × X)) → keys_of es ≡ [] → es ≡ []
 no-keys [] h = refl
 no-keys (e ∷ es) h = cc
+
+-- ---- each demand
+
+by-itself : (column : InColumn) (old new : LayerContent) (made : List Slot) → IsBeside column old new made → (demand : Demand)
+    → ((i : ℕ) (v : Option AttrValue) → values_beside demand column i v ≡ wrong_by demand i v)
+    → first_of (map alone_break (keys_of (filter (has_wrong demand column.number) old.features))) ≡ None
+    → least_from None (values_looked_at demand column made) ≡ first_of (map alone_break (keys_of (filter (has_wrong demand column.number) new.features)))
+by-itself column old new made beside demand alone none =
+    wrongs-looked column old new made beside demand alone
+    (no-keys (filter (has_wrong demand column.number) old.features) (no-first alone_break (keys_of (filter (has_wrong demand column.number) old.features)) none))
+
+-- where a rule held in the layer as it was, the least break of those that are looked at is the first one of the layer as it will be
+near-by : (column : InColumn) (old new : LayerContent) (made : List Slot) → IsBeside column old new made → (demand : Demand) → first_of (breaks_in demand column.number old) ≡ None
+    → least_from None (values_looked_at demand column made) ≡ first_of (breaks_in demand column.number new)
+near-by column old new made beside Unique none = doubles-looked column old new made beside (no-first pair_break (doubles_found column.number old) none)
+near-by column old new made beside Required none = by-itself column old new made beside Required (λ i v. refl) none
+near-by column old new made beside (OneOf allowed) none = by-itself column old new made beside (OneOf allowed) (λ i v. refl) none
+near-by column old new made beside (InRange range) none = by-itself column old new made beside (InRange range) (λ i v. refl) none
 
 -- what breaks a rule on values in a layer that is there
 break-there : (content : Content) (rule : ValueRule) (layer : LayerContent) (column : Column) → layer_of content rule.layer ≡ Some layer → column_named layer rule.column ≡ Some column
@@ -362,16 +387,10 @@ module _ (old now : Content) (rule : ValueRule) (made leaving : List Slot) (colu
     kept = λ id none. kept-at old now made leaving comes leaves is.well_formed column.place id column.layer.now old-layer.0 now-at old-at none;
   }
 
-  by-demand : (demand : Demand) → first_of (breaks_in demand column.number old-layer.0) ≡ None → least_from None (values_looked_at demand column made) ≡ first_of (breaks_in demand column.number new-layer.0)
-  by-demand Unique none = doubles-looked column old-layer.0 new-layer.0 made beside (no-first pair_break (doubles_found column.number old-layer.0) none)
-  by-demand Required none =
-      lacking-looked column old-layer.0 new-layer.0 made beside
-      (no-keys (filter (lacks_value column.number) old-layer.0.features) (no-first alone_break (keys_of (filter (lacks_value column.number) old-layer.0.features)) none))
-
   -- the least break of those that are looked at is the first one
   pub values-near : break_of_values old rule ≡ None → least_from None (values_looked_at rule.demand column made) ≡ break_of_values (patched now leaving) rule
   values-near held =
-      by-demand rule.demand (ap (λ n. first_of (breaks_in rule.demand n old-layer.0)) is.number ∙ sym (break-there old rule old-layer.0 is.named old-layer.1 old-column) ∙ held)
+      near-by column old-layer.0 new-layer.0 made beside rule.demand (ap (λ n. first_of (breaks_in rule.demand n old-layer.0)) is.number ∙ sym (break-there old rule old-layer.0 is.named old-layer.1 old-column) ∙ held)
       ∙ ap (λ n. first_of (breaks_in rule.demand n new-layer.0)) is.number
       ∙ sym (break-there (patched now leaving) rule new-layer.0 is.named new-layer.1 new-column)
 
@@ -386,83 +405,84 @@ values-missing-near now rule leaving missing = by (layer_of now rule.layer) refl
         ap (break_on rule) new.1
         ∙ ap (break_in rule.demand new.0) (ap (λ cs. named cs rule.column) (same-columns (patched now leaving) now rule.layer new.0 layer (order-patched now leaving) new.1 is) ∙ h)
 
+-- ---- after one feature was changed
+
+same-names : (c d : Content) → HaveOneOrder c d → keys_of c ≡ keys_of d
+same-names [] [] h = refl
+same-names [] (y ∷ d) h = absurd h
+same-names (x ∷ c) [] h = absurd h
+same-names (x ∷ c) (y ∷ d) h = ap (λ k. k ∷ keys_of c) h.0 ∙ ap (λ ks. y.0 ∷ ks) (same-names c d h.2)
+
+in-layer : (content : Content) (name : List ℕ) (layer : LayerContent) (id : ℕ) → layer_of content name ≡ Some layer → feature_in content name id ≡ feature_of layer id
+in-layer content name layer id is = ap (option_and_then (λ l. feature_of l id)) is
+
+and_second : (a b : Bool) → b ≡ false → a && b ≡ false
+and_second true b h = h
+and_second false b h = refl
+
+or_left : (b : Bool) → b || false ≡ false → b ≡ false
+or_left true h = cc
+or_left false h = refl
+
+module _ (old now : Content) (rule : ValueRule) (name : List ℕ) (id : ℕ) (column : InColumn) (differs : DiffersAt name id old now) (is : IsInColumn now rule [] column) where
+  layer-before : (layer : LayerContent) × (layer_of old rule.layer ≡ Some layer)
+  layer-before = layer-there old now rule.layer column.layer.now (same-names old now differs.order) is.layer
+
+  column-before : column_named layer-before.0 rule.column ≡ Some is.named
+  column-before = ap (λ cs. named cs rule.column) (same-columns old now rule.layer layer-before.0 column.layer.now differs.order layer-before.1 is.layer) ∙ is.there
+
+  kept-there : (j : ℕ) → bytes_eq name rule.layer && nat_eq id j ≡ false → feature_of column.layer.now j ≡ feature_of layer-before.0 j
+  kept-there j apart = sym (in-layer now rule.layer column.layer.now j is.layer) ∙ differs.features rule.layer j apart ∙ in-layer old rule.layer layer-before.0 j layer-before.1
+
+  beside-of : (made : List Slot) → ((j : ℕ) → list_any (is_of_id column.place j) made ≡ false → bytes_eq name rule.layer && nat_eq id j ≡ false)
+      → IsBeside column layer-before.0 column.layer.now made
+  beside-of made apart = record {
+    rising = (layer-fits now rule.layer column.layer.now is.well_formed is.layer).rising;
+    new_rising = (layer-fits now rule.layer column.layer.now is.well_formed is.layer).rising;
+    stays = λ j. ap (λ (slots : List Slot). staying column.layer.now slots column.place j) (sym is.leaves);
+    kept = λ j none. kept-there j (apart j none);
+  }
+
+  first-now : first_of (breaks_in rule.demand column.number column.layer.now) ≡ break_of_values now rule
+  first-now = ap (λ n. first_of (breaks_in rule.demand n column.layer.now)) is.number ∙ sym (break-there now rule column.layer.now is.named is.layer is.there)
+
+  held-there : break_of_values old rule ≡ None → first_of (breaks_in rule.demand column.number layer-before.0) ≡ None
+  held-there held = ap (λ n. first_of (breaks_in rule.demand n layer-before.0)) is.number ∙ sym (break-there old rule layer-before.0 is.named layer-before.1 column-before) ∙ held
+
+  -- a rule of another layer holds still
+  pub values-elsewhere : bytes_eq name rule.layer ≡ false → break_of_values old rule ≡ None → break_of_values now rule ≡ None
+  values-elsewhere apart held =
+      sym first-now
+      ∙ sym (near-by column layer-before.0 column.layer.now [] (beside-of [] (λ j none. ap (λ b. b && nat_eq id j) apart)) rule.demand (held-there held))
+
+  -- the least break with the feature is the first one
+  pub values-at-one : break_of_values old rule ≡ None → least_from None (values_at rule.demand column column.place id) ≡ break_of_values now rule
+  values-at-one held =
+      ap (least_from None) (sym (append-nil (values_at rule.demand column column.place id)))
+      ∙ near-by column layer-before.0 column.layer.now (State column.place id None ∷ [])
+      (beside-of (State column.place id None ∷ [])
+      (λ j none. and_second (bytes_eq name rule.layer) (nat_eq id j) (sym (ap (λ b. b && nat_eq id j) (eq-eqb column.place column.place refl)) ∙ or_left (nat_eq column.place column.place && nat_eq id j) none))) rule.demand (held-there held)
+      ∙ first-now
+
 -- ---- of all features
 
-none-kept : {X : Type 0} (f : X → Bool) (es : List X) → filter (λ e. f e && false) es ≡ []
-none-kept f [] = refl
-none-kept f (e ∷ es) = by (f e) (none-kept f es)
-  where
-    by : (t : Bool) → filter (λ d. f d && false) es ≡ [] → cond (t && false) (e ∷ filter (λ d. f d && false) es) (filter (λ d. f d && false) es) ≡ []
-    by true h = h
-    by false h = h
-
--- the features behind one that have its value
-behind-row : (number i : ℕ) (value : AttrValue) (es : List (ℕ × FeatureContent))
-    → map (λ j. Pair i j) (filter (λ j. nat_lt i j) (keys_of (filter (λ (e : ℕ × FeatureContent). has_value number value e.1) es)))
-    ≡ map pair_break (map (λ (b : ℕ × FeatureContent). (i, b.0)) (filter (λ (b : ℕ × FeatureContent). nat_lt i b.0 && has_value number value b.1) es))
-behind-row number i value [] = refl
-behind-row number i value (e ∷ es) = by (has_value number value e.1) (nat_lt i e.0) refl (behind-row number i value es)
-  where
-    with : List (ℕ × FeatureContent)
-    with = filter (λ (d : ℕ × FeatureContent). has_value number value d.1) es
-
-    both : List (ℕ × FeatureContent)
-    both = filter (λ (d : ℕ × FeatureContent). nat_lt i d.0 && has_value number value d.1) es
-
-    by : (h l : Bool) → nat_lt i e.0 ≡ l
-        → map (λ j. Pair i j) (filter (λ j. nat_lt i j) (keys_of with)) ≡ map pair_break (map (λ (b : ℕ × FeatureContent). (i, b.0)) both)
-        → map (λ j. Pair i j) (filter (λ j. nat_lt i j) (keys_of (cond h (e ∷ with) with))) ≡ map pair_break (map (λ (b : ℕ × FeatureContent). (i, b.0)) (cond (l && h) (e ∷ both) both))
-    by true true is rest = ap (λ t. map (λ j. Pair i j) (cond t (e.0 ∷ filter (λ j. nat_lt i j) (keys_of with)) (filter (λ j. nat_lt i j) (keys_of with)))) is ∙ ap (λ bs. Pair i e.0 ∷ bs) rest
-    by true false is rest = ap (λ t. map (λ j. Pair i j) (cond t (e.0 ∷ filter (λ j. nat_lt i j) (keys_of with)) (filter (λ j. nat_lt i j) (keys_of with)))) is ∙ rest
-    by false true is rest = rest
-    by false false is rest = rest
-
-double-row : InColumn → ℕ × FeatureContent → List (ℕ × ℕ)
-double-row column e = map (λ (b : ℕ × FeatureContent). (e.0, b.0)) (filter (is_double column.number e) column.layer.now.features)
-
-one-row : (column : InColumn) (e : ℕ × FeatureContent) → values_of_entry Unique column e ≡ map pair_break (double-row column e)
-unfolding double-row
-one-row column e = by (value_in column.number e.1)
-  where
-    by : (o : Option AttrValue)
-        → doubles_behind column e.0 o
-        ≡ map pair_break (map (λ (b : ℕ × FeatureContent). (e.0, b.0)) (filter (λ (b : ℕ × FeatureContent). nat_lt e.0 b.0 && option_map_or (λ value. has_value column.number value b.1) o false) column.layer.now.features))
-    by None = sym (ap (λ (es : List (ℕ × FeatureContent)). map pair_break (map (λ (b : ℕ × FeatureContent). (e.0, b.0)) es)) (none-kept (λ (b : ℕ × FeatureContent). nat_lt e.0 b.0) column.layer.now.features))
-    by (Some value) = behind-row column.number e.0 value column.layer.now.features
-
-map-append : (xs ys : List (ℕ × ℕ)) → map pair_break (xs ++ ys) ≡ map pair_break xs ++ map pair_break ys
-map-append [] ys = refl
-map-append (x ∷ xs) ys = ap (λ bs. pair_break x ∷ bs) (map-append xs ys)
-
-all-doubles : (column : InColumn) (es : List (ℕ × FeatureContent)) → flat_map (values_of_entry Unique column) es ≡ map pair_break (flat_map (double-row column) es)
-all-doubles column [] = refl
-all-doubles column (e ∷ es) =
-    ap (λ xs. xs ++ flat_map (values_of_entry Unique column) es) (one-row column e)
-    ∙ ap (λ ys. map pair_break (double-row column e) ++ ys) (all-doubles column es)
-    ∙ sym (map-append (double-row column e) (flat_map (double-row column) es))
-
-all-lacking : (column : InColumn) (es : List (ℕ × FeatureContent)) → flat_map (values_of_entry Required column) es ≡ map alone_break (keys_of (filter (lacks_value column.number) es))
-all-lacking column [] = refl
-all-lacking column (e ∷ es) = by (value_in column.number e.1) (all-lacking column es)
+pub all-wrong : (demand : Demand) (number : ℕ) (es : List (ℕ × FeatureContent)) → flat_map (wrong_of_entry demand number) es ≡ map alone_break (keys_of (filter (has_wrong demand number) es))
+all-wrong demand number [] = refl
+all-wrong demand number (e ∷ es) = by (is_wrong demand (value_in number e.1)) (all-wrong demand number es)
   where
     rest : List (ℕ × FeatureContent)
-    rest = filter (lacks_value column.number) es
+    rest = filter (has_wrong demand number) es
 
-    by : (o : Option AttrValue) → flat_map (values_of_entry Required column) es ≡ map alone_break (keys_of rest)
-        → lacking_by e.0 o ++ flat_map (values_of_entry Required column) es ≡ map alone_break (keys_of (cond (not (is_some o)) (e ∷ rest) rest))
-    by None h = ap (λ bs. Alone e.0 ∷ bs) h
-    by (Some value) h = h
+    by : (t : Bool) → flat_map (wrong_of_entry demand number) es ≡ map alone_break (keys_of rest)
+        → (if t then Alone e.0 ∷ [] else []) ++ flat_map (wrong_of_entry demand number) es ≡ map alone_break (keys_of (cond t (e ∷ rest) rest))
+    by true h = ap (λ bs. Alone e.0 ∷ bs) h
+    by false h = h
 
--- all of them are the breaks of the rule
+-- the first of them is what breaks the rule first
 pub whole-values : (content : Content) (rule : ValueRule) (leaving : List Slot) (column : InColumn) → IsInColumn content rule leaving column
-    → first_of (flat_map (values_of_entry rule.demand column) column.layer.now.features) ≡ break_of_values content rule
-unfolding double-row
+    → first_of (breaks_in rule.demand column.number column.layer.now) ≡ break_of_values content rule
 whole-values content rule leaving column is =
-    by rule.demand ∙ ap (λ n. first_of (breaks_in rule.demand n column.layer.now)) is.number ∙ sym (break-there content rule column.layer.now is.named is.layer is.there)
-  where
-    by : (demand : Demand) → first_of (flat_map (values_of_entry demand column) column.layer.now.features) ≡ first_of (breaks_in demand column.number column.layer.now)
-    by Unique = ap first_of (all-doubles column column.layer.now.features)
-    by Required = ap first_of (all-lacking column column.layer.now.features)
+    ap (λ n. first_of (breaks_in rule.demand n column.layer.now)) is.number ∙ sym (break-there content rule column.layer.now is.named is.layer is.there)
 
 pub whole-values-missing : (content : Content) (rule : ValueRule) → IsInLayerOrMissing rule (layer_of content rule.layer) → break_of_values content rule ≡ None
 whole-values-missing content rule missing = by (layer_of content rule.layer) missing
@@ -471,31 +491,9 @@ whole-values-missing content rule missing = by (layer_of content rule.layer) mis
     by None h = refl
     by (Some layer) h = ap (break_in rule.demand layer) h
 
--- ---- loops
-
--- the first of those that pass
-pub first-passing : (g : ℕ → Break) (p : ℕ → Bool) (xs : List ℕ) → first_of (map g (filter p xs)) ≡ option_map g (find p xs)
-first-passing g p [] = refl
-first-passing g p (x ∷ xs) = by (p x) (first-passing g p xs)
-  where
-    by : (t : Bool) → first_of (map g (filter p xs)) ≡ option_map g (find p xs) → first_of (map g (cond t (x ∷ filter p xs) (filter p xs))) ≡ option_map g (cond t (Some x) (find p xs))
-    by true h = refl
-    by false h = h
-
-pub first-found : (g : ℕ → Break) (p : ℕ → Bool) (xs : List ℕ) (found : Option ℕ) → found ≡ find p xs → option_map g found ≡ first_of (map g (filter p xs))
-first-found g p xs found is = ap (option_map g) is ∙ sym (first-passing g p xs)
+-- ---- a loop
 
 -- what a call finds of an entry
-pub of-entry : (demand : Demand) (column : InColumn) (e : ℕ × FeatureContent) (value : Option AttrValue) (found : Option Break) → value ≡ value_in column.number e.1
-    → found ≡ first_of (values_behind demand column e.0 value) → found ≡ first_of (values_of_entry demand column e)
-of-entry demand column e value found is h = h ∙ ap (λ v. first_of (values_behind demand column e.0 v)) is
-
--- ---- the column of a name
-
-pub column-at : (layer : LayerContent) (name : List ℕ) (place : ℕ) (o : Option Column) → place ≡ column_place layer name → true ≡ is_some (column_named layer name)
-    → o ≡ slice_get layer.columns place → o ≡ column_named layer name
-column-at layer name place o at stands is = by (column_named layer name) refl stands
-  where
-    by : (found : Option Column) → column_named layer name ≡ found → true ≡ is_some found → o ≡ found
-    by None k h = cc
-    by (Some column) k h = is ∙ ap (slice_get layer.columns) at ∙ column_at_place layer name column k
+pub of-entry : (demand : Demand) (number : ℕ) (e : ℕ × FeatureContent) (value : Option AttrValue) (found : Option Break) → value ≡ value_in number e.1
+    → found ≡ first_of (wrong_by demand e.0 value) → found ≡ first_of (wrong_of_entry demand number e)
+of-entry demand number e value found is h = h ∙ ap (λ v. first_of (wrong_by demand e.0 v)) is

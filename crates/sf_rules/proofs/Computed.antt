@@ -1,5 +1,5 @@
 -- Rules computed, of squares and wells.
-use Rattle.std.proofs.Common.{◌≡◌, ℕ, List, [], ◌∷◌, pos, Some, None, codes, refl}
+use Rattle.std.proofs.Common.{◌≡◌, ℕ, true, false, List, [], ◌∷◌, pos, Some, None, codes, refl}
 use Rattle.sf_grid.specs.Plane.{Coordinates}
 use Rattle.sf_geometry.specs.declared.geometry.Geometry.TheVariants.{Point, Polygon}
 use Rattle.sf_features.specs.Features.{FeatureContent}
@@ -7,19 +7,21 @@ use Rattle.sf_layers.specs.Content.{Content, LayerContent}
 use Rattle.sf_layers.specs.declared.layer_kind.LayerKind.TheVariants.{Any}
 use Rattle.sf_known.specs.declared.predicate.Predicate.TheVariants.{Intersects}
 use Rattle.sf_known.specs.declared.letter.Letter.TheVariants as letters
-use Rattle.sf_query.specs.declared.ask.Ask.{Ask}
-use Rattle.sf_query.specs.declared.ask.Ask.TheVariants.{Matching, Named}
+use Rattle.sf_joins.specs.Passed.{PairAsk}
+use Rattle.sf_joins.specs.Passed.{Matrix}
+use Rattle.sf_joins.specs.Passed.{Matching, Named}
 use Rattle.sf_rules.specs.declared.breaks.Break.TheVariants.{Alone, Pair}
 use Rattle.sf_rules.specs.declared.rule.Form.TheVariants.{Each, Never}
 use Rattle.sf_rules.specs.declared.rule.Rule.{Rule}
 use Rattle.sf_rules.specs.declared.rule.Demand.{Demand}
-use Rattle.sf_rules.specs.declared.rule.Demand.TheVariants.{Required, Unique}
+use Rattle.sf_rules.specs.declared.rule.Demand.TheVariants.{InRange, OneOf, Required, Unique}
 use Rattle.sf_rules.specs.declared.rule.Says.TheVariants.{OfLayers, OfValues}
 use Rattle.sf_features.specs.declared.attr_value.AttrValue.{AttrValue}
 use Rattle.sf_features.specs.declared.attr_value.AttrValue.TheVariants as values
 use Rattle.sf_features.specs.declared.column.Column.{Column}
 use Rattle.sf_features.specs.declared.column_type.ColumnType.TheVariants as types
-use Rattle.sf_rules.specs.Rules.{break_of, first_broken}
+use Rattle.sf_layers.specs.declared.value_range.ValueRange.{ValueRange}
+use Rattle.sf_rules.specs.Rules.{break_of, first_broken, fits_type}
 
 abbrev at : ℕ → ℕ → Coordinates
 at x y = record { x = pos x; y = pos y }
@@ -38,8 +40,8 @@ abbrev map_with : List (ℕ × FeatureContent) → List (ℕ × FeatureContent) 
 map_with parcels wells = (codes "parcels", layer parcels) ∷ (codes "wells", layer wells) ∷ []
 
 -- interiors that meet
-abbrev overlapping : Ask
-overlapping = Matching (letters.Filled ∷ letters.Any ∷ letters.Any ∷ letters.Any ∷ letters.Any ∷ letters.Any ∷ letters.Any ∷ letters.Any ∷ letters.Any ∷ [])
+abbrev overlapping : PairAsk
+overlapping = Matrix (Matching (letters.Filled ∷ letters.Any ∷ letters.Any ∷ letters.Any ∷ letters.Any ∷ letters.Any ∷ letters.Any ∷ letters.Any ∷ letters.Any ∷ []))
 
 -- no two parcels overlap
 abbrev apart : Rule
@@ -47,7 +49,7 @@ apart = record { name = codes "apart"; says = OfLayers (record { form = Never; f
 
 -- each well is in some parcel, or on its boundary
 abbrev reached : Rule
-reached = record { name = codes "reached"; says = OfLayers (record { form = Each; first = codes "wells"; ask = Named Intersects; second = codes "parcels" }) }
+reached = record { name = codes "reached"; says = OfLayers (record { form = Each; first = codes "wells"; ask = Matrix (Named Intersects); second = codes "parcels" }) }
 
 abbrev two : List (ℕ × FeatureContent)
 two = (1, square 0 10) ∷ (2, square 10 20) ∷ []
@@ -104,6 +106,60 @@ one_value_twice = refl
 
 without_a_value : break_of (register some) (numbered Required) ≡ Some (Alone 2)
 without_a_value = refl
+
+-- a text is one of these
+abbrev lots : Demand
+lots = OneOf (values.Text (codes "17/4") ∷ values.Text (codes "17/6") ∷ [])
+
+one_of_them : break_of (register twice) (numbered lots) ≡ None
+one_of_them = refl
+
+none_of_them : break_of (register some) (numbered lots) ≡ Some (Alone 5)
+none_of_them = refl
+
+abbrev measured : List (ℕ × FeatureContent)
+measured = (1, parcel ((3, values.Int (pos 5)) ∷ [])) ∷ (2, parcel []) ∷ (5, parcel ((3, values.Int (pos 9)) ∷ [])) ∷ []
+
+abbrev from_5_to : ℕ → Demand
+from_5_to n = InRange (record { from = Some (values.Int (pos 5)); to = Some (values.Int (pos n)) })
+
+-- the ends belong to it
+from_end_to_end : break_of (register measured) (numbered (from_5_to 9)) ≡ None
+from_end_to_end = refl
+
+above_the_range : break_of (register measured) (numbered (from_5_to 8)) ≡ Some (Alone 5)
+above_the_range = refl
+
+below_the_range : break_of (register measured) (numbered (InRange (record { from = Some (values.Int (pos 6)); to = None }))) ≡ Some (Alone 1)
+below_the_range = refl
+
+without_a_first_end : break_of (register measured) (numbered (InRange (record { from = None; to = Some (values.Int (pos 9)) }))) ≡ None
+without_a_first_end = refl
+
+-- what may be demanded of a column of a type
+abbrev sizes : Demand
+sizes = OneOf (values.Int (pos 5) ∷ values.Int (pos 9) ∷ [])
+
+numbers_fit : fits_type types.Decimal sizes ≡ true
+numbers_fit = refl
+
+numbers_are_no_texts : fits_type types.Text sizes ≡ false
+numbers_are_no_texts = refl
+
+texts_are_no_numbers : fits_type types.Int lots ≡ false
+texts_are_no_numbers = refl
+
+no_value_is_too_few : fits_type types.Text (OneOf []) ≡ false
+no_value_is_too_few = refl
+
+range_fits : fits_type types.Decimal (from_5_to 9) ≡ true
+range_fits = refl
+
+range_with_nothing_in_it : fits_type types.Int (from_5_to 4) ≡ false
+range_with_nothing_in_it = refl
+
+range_without_an_end : fits_type types.Int (InRange (record { from = None; to = None })) ≡ false
+range_without_an_end = refl
 
 another_column_says_nothing : break_of (register ((1, parcel ((2, values.Int (pos 7)) ∷ [])) ∷ (2, parcel ((2, values.Int (pos 7)) ∷ [])) ∷ [])) (numbered Unique) ≡ None
 another_column_says_nothing = refl

@@ -7,13 +7,35 @@ use Rattle.std.specs.List.{Contains, list_any}
 use Rattle.std.specs.List.Sorted.{IsStrictlySortedBy}
 use Rattle.std.specs.Map.{keys_of, lookup}
 use Rattle.std.specs.Ordering.{nat_cmp}
-use Rattle.sf_query.proofs.FilterLaws.{IsFoundIn, each-found}
+use Rattle.sf_joins.proofs.Passed.{IsFoundIn, each-found}
 use Rattle.sf_joins.proofs.PairLaws.{contains-cons, contains-filter, contains-flat, contains-here, contains-map, contains-there, filter-contains, flat-contains, map-contains}
 
 -- ---- what is found under a number
 
 none-in : {X : Type 0} (x : X) → Contains [] x → ⊥
 none-in x c = absurd (omega (arith, c.1))
+
+module _ {X : Type 0} where
+  -- some member passes just where one is there that does
+  pub any-in : (p : X → Bool) (xs : List X) → list_any p xs ≡ true → (x : X) × Contains xs x × (p x ≡ true)
+  any-in p [] h = cc
+  any-in p (x ∷ xs) h = by (p x) refl h (λ rest. any-in p xs rest)
+    where
+      by : (b : Bool) → p x ≡ b → b || list_any p xs ≡ true → (list_any p xs ≡ true → (y : X) × Contains xs y × (p y ≡ true)) → (y : X) × Contains (x ∷ xs) y × (p y ≡ true)
+      by true is g later = (x, contains-here x xs, is)
+      by false is g later = let y = later g in (y.0, contains-there x xs y.0 y.1, y.2)
+
+  pub in-any : (p : X → Bool) (xs : List X) (y : X) → Contains xs y → p y ≡ true → list_any p xs ≡ true
+  in-any p [] y c passes = absurd (omega (arith, c.1))
+  in-any p (x ∷ xs) y c passes = by (contains-cons x xs y c) (λ rest. in-any p xs y rest passes)
+    where
+      right : (b : Bool) → list_any p xs ≡ true → b || list_any p xs ≡ true
+      right true is = refl
+      right false is = is
+
+      by : (x ≡ y) ⊎ Contains xs y → (Contains xs y → list_any p xs ≡ true) → p x || list_any p xs ≡ true
+      by (inl same) later = ap (λ b. b || list_any p xs) (ap p same ∙ passes)
+      by (inr rest) later = right (p x) (later rest)
 
 module _ {X : Type 0} where
   -- an entry is found under its number
@@ -30,26 +52,6 @@ module _ {X : Type 0} where
     pub value : X
     pub found : lookup (nat_eq key) es ≡ Some value
     pub passes : p (key, value) ≡ true
-
-  any-in : (p : ℕ × X → Bool) (es : List (ℕ × X)) → list_any p es ≡ true → (e : ℕ × X) × Contains es e × (p e ≡ true)
-  any-in p [] h = cc
-  any-in p (e ∷ es) h = by (p e) refl h (λ rest. any-in p es rest)
-    where
-      by : (b : Bool) → p e ≡ b → b || list_any p es ≡ true → (list_any p es ≡ true → (f : ℕ × X) × Contains es f × (p f ≡ true)) → (f : ℕ × X) × Contains (e ∷ es) f × (p f ≡ true)
-      by true is g later = (e, contains-here e es, is)
-      by false is g later = let f = later g in (f.0, contains-there e es f.0 f.1, f.2)
-
-  in-any : (p : ℕ × X → Bool) (es : List (ℕ × X)) (e : ℕ × X) → Contains es e → p e ≡ true → list_any p es ≡ true
-  in-any p [] e c passes = absurd (omega (arith, c.1))
-  in-any p (x ∷ es) e c passes = by (contains-cons x es e c) (λ rest. in-any p es e rest passes)
-    where
-      right : (b : Bool) → list_any p es ≡ true → b || list_any p es ≡ true
-      right true is = refl
-      right false is = is
-
-      by : (x ≡ e) ⊎ Contains es e → (Contains es e → list_any p es ≡ true) → p x || list_any p es ≡ true
-      by (inl same) later = ap (λ b. b || list_any p es) (ap p same ∙ passes)
-      by (inr rest) later = right (p x) (later rest)
 
   -- some entry passes just where one is found that does
   pub any-found : (p : ℕ × X → Bool) (es : List (ℕ × X)) → IsStrictlySortedBy nat_cmp (keys_of es) → list_any p es ≡ true → Passes p es

@@ -7,14 +7,18 @@ use Rattle.std.specs.Option.{option_map_or}
 use Rattle.std.specs.Ordering.{nat_cmp}
 use Rattle.std.proofs.lemmas.Bool.Decides.{nat_tests}
 use Rattle.std.proofs.lemmas.List.Elements.{All-contains, All-from_recursion}
-use Rattle.sf_query.specs.declared.ask.Ask.{Ask}
+use Rattle.sf_joins.specs.Passed.{PairAsk}
 use Rattle.sf_layers.specs.Content.{Content, LayerContent, column_named, feature_of, layer_of}
 use Rattle.sf_features.specs.declared.attr_value.AttrValue.{AttrValue}
 use Rattle.sf_features.specs.declared.column.Column.{Column}
 use Rattle.sf_features.specs.Features.{FeatureContent, value_in}
+use Rattle.sf_features.specs.Values.{same_value}
+use Rattle.sf_features.proofs.SameLaws.{same-itself, same-value}
 use Rattle.sf_layers.specs.WellFormed.{IsWellFormed}
+use Rattle.sf_layers.specs.declared.value_range.ValueRange.{ValueRange}
 use Rattle.sf_joins.specs.Joins.{is_pair, pairs_found}
-use Rattle.sf_joins.specs.Joins.{IsJoined}
+use Rattle.sf_joins.specs.Joins.{HasValid, IsJoined}
+use Rattle.sf_joins.proofs.Passed.{geometries-valid}
 use Rattle.sf_joins.proofs.PlaneLaws.{joins_are_over_the_plane}
 use Rattle.sf_rules.specs.declared.breaks.Break.{Break}
 use Rattle.sf_rules.specs.declared.breaks.Break.TheVariants.{Alone, Pair}
@@ -27,15 +31,15 @@ use Rattle.sf_rules.specs.declared.rule.ValueRule.{ValueRule}
 use Rattle.sf_rules.specs.declared.rule.Says.{Says}
 use Rattle.sf_rules.specs.declared.rule.Says.TheVariants.{OfLayers, OfValues}
 use Rattle.sf_rules.specs.declared.rule.Demand.{Demand}
-use Rattle.sf_rules.specs.declared.rule.Demand.TheVariants.{Required, Unique}
+use Rattle.sf_rules.specs.declared.rule.Demand.TheVariants.{InRange, OneOf, Required, Unique}
 use Rattle.sf_rules.specs.Breaks.{is_before}
-use Rattle.sf_rules.specs.Holds.{AllHold, Breaks, BreaksAreOverThePlane, HasColumn, HasNamed, HasSaid, HasValue, Holds, HoldsBetween, HoldsBy, HoldsInColumn, HoldsInLayer, HoldsOnValues, HoldsSaid, IsBreak, IsBrokenBy, IsValueBreak, ReportedRulesAreBroken, RulesAreOverThePlane, ValueBreaksAreThese}
-use Rattle.sf_rules.specs.Rules.{has_value, alone_break, break_by, break_in, break_of, break_on, break_said, breaks_between, breaks_in, broken_from, broken_or, doubles_found, first_of, is_double, lacks_partner, lacks_value, of_one, pair_break}
-use Rattle.sf_query.proofs.FilterLaws.{rising-filter}
+use Rattle.sf_rules.specs.Holds.{AllHold, AreValueBreaks, Breaks, BreaksAreOverThePlane, HasColumn, HasNamed, HasSaid, HasValue, Holds, HoldsBetween, HoldsBy, HoldsInColumn, HoldsInLayer, HoldsOnValues, HoldsSaid, IsBreak, IsBrokenBy, IsValueBreak, ReportedRulesAreBroken, RulesAreOverThePlane, ValueBreaksAreThese}
+use Rattle.sf_rules.specs.Rules.{has_value, alone_break, break_by, break_in, break_of, break_on, break_said, breaks_between, breaks_in, broken_from, broken_or, doubles_found, first_of, has_wrong, is_double, is_in_range, is_one_of, is_wrong, lacks_partner, of_one, pair_break}
+use Rattle.sf_joins.proofs.Passed.{rising-filter}
 use Rattle.sf_joins.proofs.PairLaws.{contains-cons, contains-filter, contains-here, contains-map, filter-contains, flat-rises, map-contains, row-begins, row-rises}
-use Rattle.sf_query.proofs.QueryLaws.{layer-fits}
+use Rattle.sf_joins.proofs.Passed.{layer-fits}
 use Rattle.sf_rules.proofs.LeastLaws.{BeginsWithLeast, before-itself, before-trans}
-use Rattle.sf_rules.proofs.EntryLaws.{ArePair, alone-found, alone-of, alone_of, any-found, any-of, member, pair-found, pair-of, there}
+use Rattle.sf_rules.proofs.EntryLaws.{ArePair, alone-found, alone-of, alone_of, any-found, any-in, any-of, in-any, member, pair-found, pair-of, there}
 use Rattle.sf_rules.proofs.ChangeLaws.{alone-begin, pairs-begin}
 use Rattle.sf_rules.proofs.ColumnLaws.{shared, sharing}
 
@@ -55,7 +59,7 @@ first-none : (breaks : List Break) → first_of breaks ≡ None → breaks ≡ [
 first-none [] h = refl
 first-none (x ∷ xs) h = cc
 
-first-least : (breaks : List Break) → BeginsWithLeast breaks → (x y : Break) → first_of breaks ≡ Some y → Contains breaks x → is_before x y ≡ false
+pub first-least : (breaks : List Break) → BeginsWithLeast breaks → (x y : Break) → first_of breaks ≡ Some y → Contains breaks x → is_before x y ≡ false
 first-least [] begins x y is c = absurd (none-in x c)
 first-least (z ∷ zs) begins x y is c = by (contains-cons z zs x c)
   where
@@ -75,12 +79,12 @@ first-least (z ∷ zs) begins x y is c = by (contains-cons z zs x c)
 
 -- ---- two features that are as asked
 
-module _ (one : Bool) (first second : LayerContent) (ask : Ask) (rising : IsStrictlySortedBy nat_cmp (keys_of first.features)) (others : IsStrictlySortedBy nat_cmp (keys_of second.features)) where
+module _ (one : Bool) (first second : LayerContent) (ask : PairAsk) (rising : IsStrictlySortedBy nat_cmp (keys_of first.features)) (others : IsStrictlySortedBy nat_cmp (keys_of second.features)) (vf : HasValid first) (vs : HasValid second) where
   joined : (i j : ℕ) → Contains {X = ℕ × ℕ} (pairs_found one first ask second) (i, j) → IsJoined one first ask second i j
-  joined i j c = ((joins_are_over_the_plane one first second ask rising others).just i j).0 c
+  joined i j c = ((joins_are_over_the_plane one first second ask rising others vf vs).just i j).0 c
 
   listed : (i j : ℕ) → IsJoined one first ask second i j → Contains {X = ℕ × ℕ} (pairs_found one first ask second) (i, j)
-  listed i j is = ((joins_are_over_the_plane one first second ask rising others).just i j).1 is
+  listed i j is = ((joins_are_over_the_plane one first second ask rising others vf vs).just i j).1 is
 
   never-to : (x : Break) → Contains (breaks_between Never one first ask second) x → IsBreak Never one first ask second x
   never-to x c =
@@ -173,18 +177,56 @@ module _ (one : Bool) (first second : LayerContent) (ask : Ask) (rising : IsStri
       alone-begin (alone_of (is_pair one ask) first.features second.features) (rising-filter (lacks_partner one ask second) first.features rising)
 
 pub breaks_are_over_the_plane : BreaksAreOverThePlane
-breaks_are_over_the_plane Never one first second ask rising others = record {
-  just = λ x. (never-to one first second ask rising others x, never-from one first second ask rising others x);
-  least = first-least (breaks_between Never one first ask second) (never-begins one first second ask rising others);
-  none = (never-none one first second ask rising others, never-holds one first second ask rising others);
+breaks_are_over_the_plane Never one first second ask rising others vf vs = record {
+  just = λ x. (never-to one first second ask rising others vf vs x, never-from one first second ask rising others vf vs x);
+  least = first-least (breaks_between Never one first ask second) (never-begins one first second ask rising others vf vs);
+  none = (never-none one first second ask rising others vf vs, never-holds one first second ask rising others vf vs);
 }
-breaks_are_over_the_plane Each one first second ask rising others = record {
-  just = λ x. (each-to one first second ask rising others x, each-from one first second ask rising others x);
-  least = first-least (breaks_between Each one first ask second) (each-begins one first second ask rising others);
-  none = (each-none one first second ask rising others, each-holds one first second ask rising others);
+breaks_are_over_the_plane Each one first second ask rising others vf vs = record {
+  just = λ x. (each-to one first second ask rising others vf vs x, each-from one first second ask rising others vf vs x);
+  least = first-least (breaks_between Each one first ask second) (each-begins one first second ask rising others vf vs);
+  none = (each-none one first second ask rising others vf vs, each-holds one first second ask rising others vf vs);
 }
 
 -- ---- values
+
+-- what breaks a rule on values is none where the rule holds
+value-break-fails : (demand : Demand) (number : ℕ) (layer : LayerContent) (x : Break) → IsValueBreak demand number layer x → HoldsOnValues demand number layer → ⊥
+value-break-fails Unique number layer (Pair i j) is holds = not-less i j (holds i j is.1.0 is.1.1 is.1.2) is.0
+  where
+    not-less : (m n : ℕ) → m ≡ n → m < n → ⊥
+    not-less m n h less = absurd (omega (arith, h, less))
+value-break-fails Unique number layer (Alone i) is holds = is
+value-break-fails Required number layer (Pair i j) is holds = is
+value-break-fails Required number layer (Alone i) is holds = let v = holds i is.0 in is.1 v.0 v.1
+value-break-fails (OneOf allowed) number layer (Pair i j) is holds = is
+value-break-fails (OneOf allowed) number layer (Alone i) is holds = is.2 (holds i is.0 is.1)
+value-break-fails (InRange range) number layer (Pair i j) is holds = is
+value-break-fails (InRange range) number layer (Alone i) is holds = is.2 (holds i is.0 is.1)
+
+-- of a list of what breaks a rule there is no first where the rule holds
+none-breaks : (demand : Demand) (number : ℕ) (layer : LayerContent) (xs : List Break) → ((x : Break) → Contains xs x → IsValueBreak demand number layer x) → HoldsOnValues demand number layer
+    → first_of xs ≡ None
+none-breaks demand number layer [] each holds = refl
+none-breaks demand number layer (x ∷ xs) each holds = absurd (value-break-fails demand number layer x (each x (contains-here x xs)) holds)
+
+-- a value is one of several just where it is among them
+among : (allowed : List AttrValue) (value : AttrValue) → is_one_of allowed value ≡ true → Contains allowed value
+among allowed value is =
+    let other = any-in (λ other. same_value other value) allowed is in
+    subst (Contains allowed) (same-value other.0 value other.2) other.1
+
+not-among : (allowed : List AttrValue) (value : AttrValue) → not (is_one_of allowed value) ≡ true → Contains allowed value → ⊥
+not-among allowed value is c =
+    let wrong : true ≡ false = sym (in-any (λ other. same_value other value) allowed value c (same-itself value)) ∙ not_back (is_one_of allowed value) is in cc
+
+is-not : (b : Bool) → (b ≡ true → ⊥) → not b ≡ true
+is-not true h = absurd (h refl)
+is-not false h = refl
+
+not_not : (b : Bool) → not b ≡ false → b ≡ true
+not_not true h = refl
+not_not false h = cc
 
 module _ (number : ℕ) (layer : LayerContent) (rising : IsStrictlySortedBy nat_cmp (keys_of layer.features)) where
   below : (i j : ℕ) → nat_lt i j ≡ true → i < j
@@ -218,12 +260,12 @@ module _ (number : ℕ) (layer : LayerContent) (rising : IsStrictlySortedBy nat_
         (sharing number is.1.1.0 is.1.2.0 (record { value = is.1.0; first = is.1.1.2; second = is.1.2.2 }));
   }
 
-  unique-to : (x : Break) → Contains (breaks_in Unique number layer) x → IsValueBreak Unique number layer x
+  pub unique-to : (x : Break) → Contains (breaks_in Unique number layer) x → IsValueBreak Unique number layer x
   unique-to x c =
       let p = map-contains pair_break (doubles_found number layer) x c in
       subst (IsValueBreak Unique number layer) p.2 (of-pair p.0.0 p.0.1 (pair-found (is_double number) layer.features layer.features p.0.0 p.0.1 rising rising p.1))
 
-  unique-from : (x : Break) → IsValueBreak Unique number layer x → Contains (breaks_in Unique number layer) x
+  pub unique-from : (x : Break) → IsValueBreak Unique number layer x → Contains (breaks_in Unique number layer) x
   unique-from (Pair i j) is =
       let p : ℕ × ℕ = (i, j) in
       contains-map pair_break (doubles_found number layer) p (pair-of (is_double number) layer.features layer.features i j (to-pair i j is))
@@ -246,20 +288,9 @@ module _ (number : ℕ) (layer : LayerContent) (rising : IsStrictlySortedBy nat_
       by false false is js = same is js
 
   unique-holds : HoldsOnValues Unique number layer → first_of (breaks_in Unique number layer) ≡ None
-  unique-holds holds = by (breaks_in Unique number layer) unique-to
-    where
-      not-less : (i j : ℕ) → i ≡ j → i < j → ⊥
-      not-less i j h less = absurd (omega (arith, h, less))
+  unique-holds holds = none-breaks Unique number layer (breaks_in Unique number layer) unique-to holds
 
-      fails : (x : Break) → IsValueBreak Unique number layer x → ⊥
-      fails (Pair i j) is = not-less i j (holds i j is.1.0 is.1.1 is.1.2) is.0
-      fails (Alone i) is = is
-
-      by : (xs : List Break) → ((x : Break) → Contains xs x → IsValueBreak Unique number layer x) → first_of xs ≡ None
-      by [] each = refl
-      by (x ∷ xs) each = absurd (fails x (each x (contains-here x xs)))
-
-  unique-begins : BeginsWithLeast (breaks_in Unique number layer)
+  pub unique-begins : BeginsWithLeast (breaks_in Unique number layer)
   unique-begins =
       pairs-begin (doubles_found number layer)
       (flat-rises (λ (a : ℕ × FeatureContent). map (λ (b : ℕ × FeatureContent). (a.0, b.0)) (filter (is_double number a) layer.features)) (λ a. row-begins a.0 (filter (is_double number a) layer.features))
@@ -271,73 +302,119 @@ module _ (number : ℕ) (layer : LayerContent) (rising : IsStrictlySortedBy nat_
       let same : a ≡ has.0 = some-is a has.0 (sym stands ∙ has.1) in
       let wrong : None ≡ Some value = sym none ∙ ap (value_in number) same ∙ has.2 in cc
 
-  required-to : (x : Break) → Contains (breaks_in Required number layer) x → IsValueBreak Required number layer x
-  required-to x c =
-      let i = map-contains alone_break (keys_of (filter (lacks_value number) layer.features)) x c in
-      let e = map-contains (λ (e : ℕ × FeatureContent). e.0) (filter (lacks_value number) layer.features) i.0 i.1 in
-      let kept = filter-contains (lacks_value number) layer.features e.0 e.1 in
-      let stands = there layer.features e.0 rising kept.0 in
-      subst (IsValueBreak Required number layer) (ap alone_break e.2 ∙ i.2)
-      (ap is_some stands, none-value e.0.0 e.0.1 stands (no-value (value_in number e.0.1) kept.1))
-    where
-      no-value : (o : Option AttrValue) → not (is_some o) ≡ true → o ≡ None
-      no-value None h = refl
-      no-value (Some value) h = cc
+  -- ---- features that break a rule by themselves
 
-  lacking-in : (i : ℕ) (a : FeatureContent) → feature_of layer i ≡ Some a → value_in number a ≡ None → Contains (breaks_in Required number layer) (Alone i)
-  lacking-in i a stands none =
-      contains-map alone_break (keys_of (filter (lacks_value number) layer.features)) i
-      (contains-map (λ (e : ℕ × FeatureContent). e.0) (filter (lacks_value number) layer.features) (i, a)
-      (contains-filter (lacks_value number) layer.features (i, a) (member layer.features i a stands) (ap (λ (o : Option AttrValue). not (is_some o)) none)))
+  -- a feature of which this is wrong
+  IsWrongAt : Demand → ℕ → Type 0
+  IsWrongAt demand i = (a : FeatureContent) × (feature_of layer i ≡ Some a) × (is_wrong demand (value_in number a) ≡ true)
 
-  required-from : (x : Break) → IsValueBreak Required number layer x → Contains (breaks_in Required number layer) x
-  required-from (Pair i j) is = absurd is
-  required-from (Alone i) is = by (feature_of layer i) refl is.0
+  -- each breaks the rule
+  wrong-breaks : (demand : Demand) (i : ℕ) (a : FeatureContent) → feature_of layer i ≡ Some a → (o : Option AttrValue) → value_in number a ≡ o → is_wrong demand o ≡ true
+      → IsValueBreak demand number layer (Alone i)
+  wrong-breaks Unique i a stands o is h = cc
+  wrong-breaks Required i a stands None is h = (ap is_some stands, none-value i a stands is)
+  wrong-breaks Required i a stands (Some value) is h = cc
+  wrong-breaks (OneOf allowed) i a stands None is h = cc
+  wrong-breaks (OneOf allowed) i a stands (Some value) is h = (value, (a, stands, is), not-among allowed value h)
+  wrong-breaks (InRange range) i a stands None is h = cc
+  wrong-breaks (InRange range) i a stands (Some value) is h =
+      (value, (a, stands, is), λ inside. let wrong : true ≡ false = sym inside ∙ not_back (is_in_range range value) h in cc)
+
+  -- and what breaks it is one
+  breaks-wrong : (demand : Demand) (i : ℕ) → IsValueBreak demand number layer (Alone i) → IsWrongAt demand i
+  unfolding IsWrongAt
+  breaks-wrong Unique i is = absurd is
+  breaks-wrong Required i is = by (feature_of layer i) refl is.0
     where
-      at : (a : FeatureContent) → feature_of layer i ≡ Some a → (o : Option AttrValue) → value_in number a ≡ o → Contains (breaks_in Required number layer) (Alone i)
-      at a stands None v = lacking-in i a stands v
+      at : (a : FeatureContent) → feature_of layer i ≡ Some a → (o : Option AttrValue) → value_in number a ≡ o → is_wrong Required o ≡ true
+      at a stands None v = refl
       at a stands (Some value) v = absurd (is.1 value (a, stands, v))
 
-      by : (o : Option FeatureContent) → feature_of layer i ≡ o → IsSome o → Contains (breaks_in Required number layer) (Alone i)
+      by : (o : Option FeatureContent) → feature_of layer i ≡ o → IsSome o → IsWrongAt Required i
       by None stands some = cc
-      by (Some a) stands some = at a stands (value_in number a) refl
+      by (Some a) stands some = (a, stands, at a stands (value_in number a) refl)
+  breaks-wrong (OneOf allowed) i is =
+      (is.1.0, is.1.1, ap (is_wrong (OneOf allowed)) is.1.2 ∙ is-not (is_one_of allowed is.0) (λ one. is.2 (among allowed is.0 one)))
+  breaks-wrong (InRange range) i is = (is.1.0, is.1.1, ap (is_wrong (InRange range)) is.1.2 ∙ is-not (is_in_range range is.0) is.2)
 
-  required-none : first_of (breaks_in Required number layer) ≡ None → HoldsOnValues Required number layer
-  required-none h i some = by (feature_of layer i) refl some
+  wrongs : Demand → List Break
+  wrongs demand = map alone_break (keys_of (filter (has_wrong demand number) layer.features))
+
+  wrong-in : (demand : Demand) (i : ℕ) → IsWrongAt demand i → Contains (wrongs demand) (Alone i)
+  unfolding IsWrongAt wrongs
+  wrong-in demand i is =
+      contains-map alone_break (keys_of (filter (has_wrong demand number) layer.features)) i
+      (contains-map (λ (e : ℕ × FeatureContent). e.0) (filter (has_wrong demand number) layer.features) (i, is.0)
+      (contains-filter (has_wrong demand number) layer.features (i, is.0) (member layer.features i is.0 is.1) is.2))
+
+  wrong-to : (demand : Demand) (x : Break) → Contains (wrongs demand) x → IsValueBreak demand number layer x
+  unfolding wrongs
+  wrong-to demand x c =
+      let i = map-contains alone_break (keys_of (filter (has_wrong demand number) layer.features)) x c in
+      let e = map-contains (λ (e : ℕ × FeatureContent). e.0) (filter (has_wrong demand number) layer.features) i.0 i.1 in
+      let kept = filter-contains (has_wrong demand number) layer.features e.0 e.1 in
+      subst (IsValueBreak demand number layer) (ap alone_break e.2 ∙ i.2)
+      (wrong-breaks demand e.0.0 e.0.1 (there layer.features e.0 rising kept.0) (value_in number e.0.1) refl kept.1)
+
+  wrong-from : (demand : Demand) → ((i j : ℕ) → IsValueBreak demand number layer (Pair i j) → ⊥) → (x : Break) → IsValueBreak demand number layer x → Contains (wrongs demand) x
+  wrong-from demand no-pair (Pair i j) is = absurd (no-pair i j is)
+  wrong-from demand no-pair (Alone i) is = wrong-in demand i (breaks-wrong demand i is)
+
+  -- where none is, nothing is wrong
+  none-wrong : (demand : Demand) → first_of (wrongs demand) ≡ None → (i : ℕ) (a : FeatureContent) → feature_of layer i ≡ Some a → is_wrong demand (value_in number a) ≡ false
+  unfolding IsWrongAt
+  none-wrong demand none i a stands = by (is_wrong demand (value_in number a)) refl
     where
-      at : (a : FeatureContent) → feature_of layer i ≡ Some a → (o : Option AttrValue) → value_in number a ≡ o → (value : AttrValue) × HasValue number layer i value
-      at a stands None v = absurd (none-in (Alone i) (subst (λ bs. Contains bs (Alone i)) (first-none (breaks_in Required number layer) h) (lacking-in i a stands v)))
-      at a stands (Some value) v = (value, (a, stands, v))
+      by : (t : Bool) → is_wrong demand (value_in number a) ≡ t → t ≡ false
+      by false is = refl
+      by true is = absurd (none-in (Alone i) (subst (λ bs. Contains bs (Alone i)) (first-none (wrongs demand) none) (wrong-in demand i (a, stands, is))))
+
+  required-none : first_of (wrongs Required) ≡ None → HoldsOnValues Required number layer
+  required-none none i some = by (feature_of layer i) refl some
+    where
+      at : (a : FeatureContent) → feature_of layer i ≡ Some a → (o : Option AttrValue) → value_in number a ≡ o → is_wrong Required o ≡ false → (value : AttrValue) × HasValue number layer i value
+      at a stands None v h = cc
+      at a stands (Some value) v h = (value, (a, stands, v))
 
       by : (o : Option FeatureContent) → feature_of layer i ≡ o → IsSome o → (value : AttrValue) × HasValue number layer i value
       by None stands given = cc
-      by (Some a) stands given = at a stands (value_in number a) refl
+      by (Some a) stands given = at a stands (value_in number a) refl (none-wrong Required none i a stands)
 
-  required-holds : HoldsOnValues Required number layer → first_of (breaks_in Required number layer) ≡ None
-  required-holds holds = by (breaks_in Required number layer) required-to
-    where
-      fails : (x : Break) → IsValueBreak Required number layer x → ⊥
-      fails (Pair i j) is = is
-      fails (Alone i) is = let v = holds i is.0 in is.1 v.0 v.1
+  -- each value passes
+  value-right : (demand : Demand) → first_of (wrongs demand) ≡ None → (i : ℕ) (value : AttrValue) → HasValue number layer i value → is_wrong demand (Some value) ≡ false
+  value-right demand none i value has = sym (ap (is_wrong demand) has.2) ∙ none-wrong demand none i has.0 has.1
 
-      by : (xs : List Break) → ((x : Break) → Contains xs x → IsValueBreak Required number layer x) → first_of xs ≡ None
-      by [] each = refl
-      by (x ∷ xs) each = absurd (fails x (each x (contains-here x xs)))
+  one-of-none : (allowed : List AttrValue) → first_of (wrongs (OneOf allowed)) ≡ None → HoldsOnValues (OneOf allowed) number layer
+  one-of-none allowed none i value has = among allowed value (not_not (is_one_of allowed value) (value-right (OneOf allowed) none i value has))
 
-  required-begins : BeginsWithLeast (breaks_in Required number layer)
-  required-begins = alone-begin (keys_of (filter (lacks_value number) layer.features)) (rising-filter (lacks_value number) layer.features rising)
+  in-range-none : (range : ValueRange) → first_of (wrongs (InRange range)) ≡ None → HoldsOnValues (InRange range) number layer
+  in-range-none range none i value has = not_not (is_in_range range value) (value-right (InRange range) none i value has)
+
+  wrongs-begin : (demand : Demand) → BeginsWithLeast (wrongs demand)
+  unfolding wrongs
+  wrongs-begin demand = alone-begin (keys_of (filter (has_wrong demand number) layer.features)) (rising-filter (has_wrong demand number) layer.features rising)
+
+  -- they are what breaks a rule that looks at each feature by itself
+  wrongs-are : (demand : Demand) → ((i j : ℕ) → IsValueBreak demand number layer (Pair i j) → ⊥)
+      → (first_of (map alone_break (keys_of (filter (has_wrong demand number) layer.features))) ≡ None → HoldsOnValues demand number layer)
+      → AreValueBreaks demand number layer (map alone_break (keys_of (filter (has_wrong demand number) layer.features)))
+  unfolding wrongs
+  wrongs-are demand no-pair holds = record {
+    just = λ x. (wrong-to demand x, wrong-from demand no-pair x);
+    least = first-least (wrongs demand) (wrongs-begin demand);
+    none = (holds, none-breaks demand number layer (wrongs demand) (wrong-to demand));
+  }
 
 pub value_breaks_are_these : ValueBreaksAreThese
+unfolding wrongs
 value_breaks_are_these Unique number layer rising = record {
   just = λ x. (unique-to number layer rising x, unique-from number layer rising x);
   least = first-least (breaks_in Unique number layer) (unique-begins number layer rising);
   none = (unique-none number layer rising, unique-holds number layer rising);
 }
-value_breaks_are_these Required number layer rising = record {
-  just = λ x. (required-to number layer rising x, required-from number layer rising x);
-  least = first-least (breaks_in Required number layer) (required-begins number layer rising);
-  none = (required-none number layer rising, required-holds number layer rising);
-}
+value_breaks_are_these Required number layer rising = wrongs-are number layer rising Required (λ i j is. is) (required-none number layer rising)
+value_breaks_are_these (OneOf allowed) number layer rising = wrongs-are number layer rising (OneOf allowed) (λ i j is. is) (one-of-none number layer rising allowed)
+value_breaks_are_these (InRange range) number layer rising = wrongs-are number layer rising (InRange range) (λ i j is. is) (in-range-none number layer rising range)
 
 -- ---- several rules
 
@@ -348,7 +425,8 @@ layers-over-the-plane content rule fine stands = by (layer_of content rule.first
     by None p is js h k = cc
     by (Some first) None is js h k = cc
     by (Some first) (Some second) is js h k =
-        (breaks_are_over_the_plane rule.form (of_one rule) first second rule.ask (layer-fits content rule.first first fine is).rising (layer-fits content rule.second second fine js).rising).none
+        (breaks_are_over_the_plane rule.form (of_one rule) first second rule.ask (layer-fits content rule.first first fine is).rising (layer-fits content rule.second second fine js).rising
+        (geometries-valid first (layer-fits content rule.first first fine is)) (geometries-valid second (layer-fits content rule.second second fine js))).none
 
 values-hold : (content : Content) (rule : ValueRule) → IsWellFormed content → HasSaid content (OfValues rule) → (break_said content (OfValues rule) ≡ None) ↔ HoldsSaid content (OfValues rule)
 values-hold content rule fine stands = by (layer_of content rule.layer) refl stands
@@ -417,7 +495,7 @@ is-found content place (rule ∷ rules) broken h = by (break_of content rule) re
         }
 
 -- what breaks a rule is none where the rule holds
-break-fails : (form : Form) (one : Bool) (first second : LayerContent) (ask : Ask) (x : Break) → IsBreak form one first ask second x → HoldsBetween form one first ask second → ⊥
+break-fails : (form : Form) (one : Bool) (first second : LayerContent) (ask : PairAsk) (x : Break) → IsBreak form one first ask second x → HoldsBetween form one first ask second → ⊥
 break-fails Never one first second ask (Pair i j) is holds = holds i j is
 break-fails Never one first second ask (Alone i) is holds = is
 break-fails Each one first second ask (Pair i j) is holds = is
@@ -431,16 +509,6 @@ first-in : (breaks : List Break) (x : Break) → first_of breaks ≡ Some x → 
 first-in [] x h = cc
 first-in (y ∷ ys) x h = subst (Contains (y ∷ ys)) (some-is y x h) (contains-here y ys)
 
--- what breaks a rule on values is none where the rule holds
-value-break-fails : (demand : Demand) (number : ℕ) (layer : LayerContent) (x : Break) → IsValueBreak demand number layer x → HoldsOnValues demand number layer → ⊥
-value-break-fails Unique number layer (Pair i j) is holds = not-less i j (holds i j is.1.0 is.1.1 is.1.2) is.0
-  where
-    not-less : (m n : ℕ) → m ≡ n → m < n → ⊥
-    not-less m n h less = absurd (omega (arith, h, less))
-value-break-fails Unique number layer (Alone i) is holds = is
-value-break-fails Required number layer (Pair i j) is holds = is
-value-break-fails Required number layer (Alone i) is holds = let v = holds i is.0 in is.1 v.0 v.1
-
 -- what is found breaks what a rule says, which then does not hold
 layers-break : (content : Content) (rule : LayerRule) (x : Break) → IsWellFormed content → break_said content (OfLayers rule) ≡ Some x → Breaks content (OfLayers rule) x × (HoldsSaid content (OfLayers rule) → ⊥)
 layers-break content rule x fine least = at (layer_of content rule.first) refl (layer_of content rule.second) refl least
@@ -451,7 +519,8 @@ layers-break content rule x fine least = at (layer_of content rule.first) refl (
     at (Some first) is None js g = cc
     at (Some first) is (Some second) js g =
         let found : IsBreak rule.form (of_one rule) first rule.ask second x =
-        ((breaks_are_over_the_plane rule.form (of_one rule) first second rule.ask (layer-fits content rule.first first fine is).rising (layer-fits content rule.second second fine js).rising).just x).0
+        ((breaks_are_over_the_plane rule.form (of_one rule) first second rule.ask (layer-fits content rule.first first fine is).rising (layer-fits content rule.second second fine js).rising
+        (geometries-valid first (layer-fits content rule.first first fine is)) (geometries-valid second (layer-fits content rule.second second fine js))).just x).0
         (first-in (breaks_between rule.form (of_one rule) first rule.ask second) x g) in (
           (first, second, is, js, found),
           λ holds. break-fails rule.form (of_one rule) first second rule.ask x found

@@ -127,10 +127,10 @@ BeginsWithLeast (x ∷ xs) = AllByRecursion (λ y. is_before x y ≡ true) xs
 each-in : (P : Break → Type 0) (xs : List Break) (y : Break) → AllByRecursion P xs → Contains xs y → P y
 each-in P xs y all c = All-contains P xs y (All-from_recursion P xs all) c
 
--- the least of breaks is the first of a list in order that has just these
-pub least-first : (found ordered : List Break) → BeginsWithLeast ordered → ((x : Break) → Contains found x → Contains ordered x) → ((x : Break) → Contains ordered x → Contains found x)
+-- the least of breaks is the first of a list in order that has them all, where it is one of them
+pub least-begins : (found ordered : List Break) → BeginsWithLeast ordered → ((x : Break) → Contains found x → Contains ordered x) → ((x : Break) → first_of ordered ≡ Some x → Contains found x)
     → least_from None found ≡ first_of ordered
-least-first found [] begins to from = by (least_from None found) refl
+least-begins found [] begins to from = by (least_from None found) refl
   where
     by : (r : Option Break) → least_from None found ≡ r → r ≡ None
     by None is = refl
@@ -139,10 +139,10 @@ least-first found [] begins to from = by (least_from None found) refl
         at : (None ≡ Some r) ⊎ Contains found r → Some r ≡ None
         at (inl wrong) = cc
         at (inr there) = absurd (none-in r (to r there))
-least-first found (x ∷ xs) begins to from = by (least_from None found) refl
+least-begins found (x ∷ xs) begins to from = by (least_from None found) refl
   where
     there : Contains found x
-    there = from x (contains-here x xs)
+    there = from x refl
 
     by : (r : Option Break) → least_from None found ≡ r → r ≡ Some x
     by None is = absurd (none-in x (subst (λ ys. Contains ys x) (least-none found is) there))
@@ -158,3 +158,12 @@ least-first found (x ∷ xs) begins to from = by (least_from None found) refl
             inside : (None ≡ Some r) ⊎ Contains found r → Some r ≡ Some x
             inside (inl wrong) = cc
             inside (inr found_there) = same (contains-cons x xs r (to r found_there)) (least.low x there)
+
+-- and that of a list that has just these
+pub least-first : (found ordered : List Break) → BeginsWithLeast ordered → ((x : Break) → Contains found x → Contains ordered x) → ((x : Break) → Contains ordered x → Contains found x)
+    → least_from None found ≡ first_of ordered
+least-first found ordered begins to from = least-begins found ordered begins to (λ x is. from x (first-there ordered x is))
+  where
+    first-there : (xs : List Break) (x : Break) → first_of xs ≡ Some x → Contains xs x
+    first-there [] x is = cc
+    first-there (y ∷ ys) x is = subst (Contains (y ∷ ys)) (some-is y x is) (contains-here y ys)

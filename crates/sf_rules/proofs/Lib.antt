@@ -11,6 +11,8 @@ pub mod PlaceLaws
 pub mod UnderwayLaws
 pub mod ColumnLaws
 pub mod HoldsLaws
+pub mod DigestLaws
+pub mod DoubleLaws
 pub mod NearLaws
 mod Computed
 pub mod JoinedLists

@@ -15,16 +15,16 @@ use Rattle.sf_features.specs.Features.{FeatureContent}
 use Rattle.sf_layers.specs.Content.{LayerContent, feature_of}
 use Rattle.sf_patches.specs.Merged.{is_of_id}
 use Rattle.sf_joins.specs.Joins.{are_distinct, is_pair, pairs_found}
-use Rattle.sf_query.specs.Answers.{is_asked}
-use Rattle.sf_joins.specs.Converse.{converse, HasNineLetters}
-use Rattle.sf_joins.proofs.ConverseLaws.{asks-turn-round}
+use Rattle.sf_joins.specs.Passed.{are_asked}
+use Rattle.sf_joins.specs.Converse.{IsPairAsk, converse_pair}
+use Rattle.sf_joins.proofs.ConverseLaws.{pairs-turn-round}
 use Rattle.sf_rules.specs.declared.breaks.Break.{Break}
 use Rattle.sf_rules.specs.declared.breaks.Break.TheVariants.{Pair, Alone}
 use Rattle.sf_rules.specs.Breaks.{least_from}
 use Rattle.sf_rules.specs.Rules.{alone_break, first_of, pair_break}
 use Rattle.sf_rules.specs.Looks.{alone_at, alone_beside, alone_first, alone_if, alone_looked_at, alone_of_leaving, alone_of_slot, alone_second, has_partner, is_partner, is_partnered, pairs_beside, pairs_beside_some, pairs_first, pairs_looked_at, pairs_of_slot, pairs_second, pairs_with, pairs_with_some, partnered, partners, staying}
 use Rattle.sf_rules.specs.Leaving.{is_leaving}
-use Rattle.sf_query.proofs.FilterLaws.{found-passes, passes-found}
+use Rattle.sf_joins.proofs.Passed.{found-passes, passes-found}
 use Rattle.sf_joins.proofs.PairLaws.{contains-cons, contains-filter, contains-flat, contains-here, contains-map, filter-contains, flat-contains, map-contains}
 use Rattle.sf_rules.proofs.EntryLaws.{ArePair, alone-of, alone_of, any-found, any-of, lacks, pair-of, pairs_of}
 use Rattle.sf_rules.proofs.ChangeLaws.{first-alone, first-pair}
@@ -32,8 +32,8 @@ use Rattle.sf_rules.proofs.SlotLaws.{of-id-there}
 
 -- two layers as they were when a rule held, as they are, and as they will be
 pub record IsAround (between : Between) (old olds new news : LayerContent) (made : List Slot) : Type 0 where
-  pub nine : HasNineLetters between.ask
-  pub turned : between.converse ≡ converse between.ask
+  pub askable : IsPairAsk between.ask
+  pub turned : between.converse ≡ converse_pair between.ask
   pub rising : IsStrictlySortedBy nat_cmp (keys_of between.first.now.features)
   pub risings : IsStrictlySortedBy nat_cmp (keys_of between.second.now.features)
   pub new_rising : IsStrictlySortedBy nat_cmp (keys_of new.features)
@@ -108,8 +108,8 @@ module _ (between : Between) (old olds new news : LayerContent) (made : List Slo
   pair : ℕ × FeatureContent → ℕ × FeatureContent → Bool
   pair = is_pair between.one between.ask
 
-  turn : (a b : Geometry) → is_asked between.ask a b ≡ is_asked between.converse b a
-  turn a b = asks-turn-round between.ask a b around.nine ∙ ap (λ ask. is_asked ask b a) (sym around.turned)
+  turn : (a b : Geometry) → are_asked between.ask a b ≡ are_asked between.converse b a
+  turn a b = pairs-turn-round between.ask a b around.askable ∙ ap (λ ask. are_asked ask b a) (sym around.turned)
 
   -- ---- partners of a feature of the first layer
 
@@ -117,20 +117,20 @@ module _ (between : Between) (old olds new news : LayerContent) (made : List Slo
       → Contains (filter (is_partner between i) (partners between a.geometry)) j
   partner-in i j a b there is =
       let stay = stays-some between.second.now between.leaving.now between.second_place j b (sym (around.stays_second j) ∙ there) in
-      let both = and_true (are_distinct between.one i j) (is_asked between.ask a.geometry b.geometry) is in
+      let both = and_true (are_distinct between.one i j) (are_asked between.ask a.geometry b.geometry) is in
       contains-filter (is_partner between i) (partners between a.geometry) j
-      (passes-found (λ f. is_asked between.converse f.geometry a.geometry) between.second.now.features j b stay.1 (sym (turn a.geometry b.geometry) ∙ both.1))
+      (passes-found (λ f. are_asked between.converse f.geometry a.geometry) between.second.now.features j b stay.1 (sym (turn a.geometry b.geometry) ∙ both.1))
       (and_of (are_distinct between.one i j) (not (is_leaving between.leaving.now between.second_place j)) both.0 (not_of (is_leaving between.leaving.now between.second_place j) stay.0))
 
   partner-from : (i j : ℕ) (a : FeatureContent) → Contains (filter (is_partner between i) (partners between a.geometry)) j
       → (b : FeatureContent) × (feature_of news j ≡ Some b) × (is_pair between.one between.ask (i, a) (j, b) ≡ true)
   partner-from i j a c =
       let kept = filter-contains (is_partner between i) (partners between a.geometry) j c in
-      let found = found-passes (λ f. is_asked between.converse f.geometry a.geometry) between.second.now.features j around.risings kept.0 in
+      let found = found-passes (λ f. are_asked between.converse f.geometry a.geometry) between.second.now.features j around.risings kept.0 in
       let both = and_true (are_distinct between.one i j) (not (is_leaving between.leaving.now between.second_place j)) kept.1 in (
         found.0,
         around.stays_second j ∙ stays-there between.second.now between.leaving.now between.second_place j found.0 (not_back (is_leaving between.leaving.now between.second_place j) both.1) found.1,
-        and_of (are_distinct between.one i j) (is_asked between.ask a.geometry found.0.geometry) both.0 (turn a.geometry found.0.geometry ∙ found.2),
+        and_of (are_distinct between.one i j) (are_asked between.ask a.geometry found.0.geometry) both.0 (turn a.geometry found.0.geometry ∙ found.2),
       )
 
   -- ---- and of one of the second
@@ -139,20 +139,20 @@ module _ (between : Between) (old olds new news : LayerContent) (made : List Slo
       → Contains (filter (is_partnered between j) (partnered between b.geometry)) i
   partnered-in i j a b there is =
       let stay = stays-some between.first.now between.leaving.now between.first_place i a (sym (around.stays i) ∙ there) in
-      let both = and_true (are_distinct between.one i j) (is_asked between.ask a.geometry b.geometry) is in
+      let both = and_true (are_distinct between.one i j) (are_asked between.ask a.geometry b.geometry) is in
       contains-filter (is_partnered between j) (partnered between b.geometry) i
-      (passes-found (λ f. is_asked between.ask f.geometry b.geometry) between.first.now.features i a stay.1 both.1)
+      (passes-found (λ f. are_asked between.ask f.geometry b.geometry) between.first.now.features i a stay.1 both.1)
       (and_of (are_distinct between.one i j) (not (is_leaving between.leaving.now between.first_place i)) both.0 (not_of (is_leaving between.leaving.now between.first_place i) stay.0))
 
   partnered-from : (i j : ℕ) (b : FeatureContent) → Contains (filter (is_partnered between j) (partnered between b.geometry)) i
       → (a : FeatureContent) × (feature_of new i ≡ Some a) × (is_pair between.one between.ask (i, a) (j, b) ≡ true)
   partnered-from i j b c =
       let kept = filter-contains (is_partnered between j) (partnered between b.geometry) i c in
-      let found = found-passes (λ f. is_asked between.ask f.geometry b.geometry) between.first.now.features i around.rising kept.0 in
+      let found = found-passes (λ f. are_asked between.ask f.geometry b.geometry) between.first.now.features i around.rising kept.0 in
       let both = and_true (are_distinct between.one i j) (not (is_leaving between.leaving.now between.first_place i)) kept.1 in (
         found.0,
         around.stays i ∙ stays-there between.first.now between.leaving.now between.first_place i found.0 (not_back (is_leaving between.leaving.now between.first_place i) both.1) found.1,
-        and_of (are_distinct between.one i j) (is_asked between.ask found.0.geometry b.geometry) both.0 found.2,
+        and_of (are_distinct between.one i j) (are_asked between.ask found.0.geometry b.geometry) both.0 found.2,
       )
 
   -- ---- what is changed
@@ -390,12 +390,12 @@ module _ (between : Between) (old olds new news : LayerContent) (made : List Slo
   beside-looked : (i : ℕ) (a b : FeatureContent) (j : ℕ) → feature_of new i ≡ Some a → lacks (is_pair between.one between.ask) news.features (i, a) ≡ true
       → is_pair between.one between.ask (i, a) (j, b) ≡ true → (o : Option FeatureContent) → o ≡ Some b → Contains (alone_second between between.second_place o) (Alone i)
   beside-looked i a b j there lacking is o o_is =
-      let both = and_true (are_distinct between.one i j) (is_asked between.ask a.geometry b.geometry) is in
+      let both = and_true (are_distinct between.one i j) (are_asked between.ask a.geometry b.geometry) is in
       let stay = stays-some between.first.now between.leaving.now between.first_place i a (sym (around.stays i) ∙ there) in
       subst (λ t. Contains (if t then alone_beside between o else []) (Alone i)) (sym (eq-eqb between.second_place between.second_place refl))
       (subst (λ p. Contains (alone_beside between p) (Alone i)) (sym o_is)
       (contains-flat (alone_at between) (partnered between b.geometry) i (Alone i)
-      (passes-found (λ f. is_asked between.ask f.geometry b.geometry) between.first.now.features i a stay.1 both.1) (at-alone i a there lacking)))
+      (passes-found (λ f. are_asked between.ask f.geometry b.geometry) between.first.now.features i a stay.1 both.1) (at-alone i a there lacking)))
 
   lost-looked : (i : ℕ) (a : FeatureContent) (j : ℕ) (b : FeatureContent) → feature_of new i ≡ Some a → lacks (is_pair between.one between.ask) news.features (i, a) ≡ true
       → changed between.second_place j ≡ true → feature_of olds j ≡ Some b → is_pair between.one between.ask (i, a) (j, b) ≡ true → Contains (alone_looked_at between made) (Alone i)

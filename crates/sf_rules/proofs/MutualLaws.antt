@@ -18,20 +18,22 @@ use Rattle.sf_known.specs.Transposed.{transposed}
 use Rattle.sf_known.specs.declared.letter.Letter.{Letter}
 use Rattle.sf_known.specs.declared.letter.Letter.TheVariants.{Any, Filled, Empty, Zero, One, Two}
 use Rattle.sf_known.specs.declared.predicate.Predicate.TheVariants.{Equals, Disjoint, Intersects, Touches, Within, Contains, Crosses, Overlaps}
-use Rattle.sf_query.specs.declared.ask.Ask.{Ask}
-use Rattle.sf_query.specs.declared.ask.Ask.TheVariants.{Matching, Named}
-use Rattle.sf_joins.specs.Converse.{HasNineLetters, converse}
+use Rattle.sf_joins.specs.Passed.{Ask}
+use Rattle.sf_joins.specs.Passed.{PairAsk}
+use Rattle.sf_joins.specs.Passed.{Matrix, Near}
+use Rattle.sf_joins.specs.Passed.{Matching, Named}
+use Rattle.sf_joins.specs.Converse.{HasNineLetters, IsPairAsk, converse, converse_pair}
 use Rattle.sf_joins.specs.Joins.{are_distinct}
 use Rattle.sf_rules.specs.declared.rule.LayerRule.{LayerRule}
 use Rattle.sf_rules.specs.Underway.{IsBetween}
-use Rattle.sf_query.specs.Answers.{is_asked}
+use Rattle.sf_joins.specs.Passed.{are_asked}
 use Rattle.sf_rules.specs.declared.between.Between.{Between}
 use Rattle.sf_rules.specs.declared.breaks.Break.{Break}
 use Rattle.sf_rules.specs.declared.breaks.Break.TheVariants.{Pair}
 use Rattle.sf_rules.specs.Rules.{first_of}
-use Rattle.sf_rules.specs.Looks.{IsMutual, is_own_converse, is_partner, is_symmetric, pairs_behind, pairs_of_entry, pairs_with, partners}
-use Rattle.sf_query.proofs.FilterLaws.{IsFoundIn, each-found, found-passes, passes-found}
-use Rattle.sf_joins.proofs.ConverseLaws.{asks-turn-round}
+use Rattle.sf_rules.specs.Looks.{IsMutual, is_mutual_ask, is_own_converse, is_partner, is_symmetric, pairs_behind, pairs_of_entry, pairs_with, partners}
+use Rattle.sf_joins.proofs.Passed.{IsFoundIn, each-found, found-passes, passes-found}
+use Rattle.sf_joins.proofs.ConverseLaws.{pairs-turn-round}
 use Rattle.sf_joins.proofs.PairLaws.{contains-filter, contains-here, contains-map, contains-there, each-append}
 use Rattle.sf_rules.proofs.WholeLaws.{found-here, none-here, partner-now}
 
@@ -149,7 +151,7 @@ same-nine (a ∷ (b ∷ (c ∷ (d ∷ (e ∷ (f ∷ (g ∷ []))))))) nine same =
 same-nine (a ∷ (b ∷ (c ∷ (d ∷ (e ∷ (f ∷ (g ∷ (h ∷ [])))))))) nine same = absurd (omega (arith, nine))
 same-nine (a ∷ (b ∷ (c ∷ (d ∷ (e ∷ (f ∷ (g ∷ (h1 ∷ (i ∷ (j ∷ more)))))))))) nine same = absurd (omega (arith, nine))
 
-pub own-converse : (ask : Ask) → HasNineLetters ask → is_own_converse ask ≡ true → converse ask ≡ ask
+own-converse : (ask : Ask) → HasNineLetters ask → is_own_converse ask ≡ true → converse ask ≡ ask
 own-converse (Matching letters) nine h = ap Matching (same-nine letters nine h)
 own-converse (Named Equals) nine h = refl
 own-converse (Named Disjoint) nine h = refl
@@ -160,20 +162,24 @@ own-converse (Named Contains) nine h = cc
 own-converse (Named Crosses) nine h = refl
 own-converse (Named Overlaps) nine h = refl
 
+pub mutual-ask : (ask : PairAsk) → IsPairAsk ask → is_mutual_ask ask ≡ true → converse_pair ask ≡ ask
+mutual-ask (Matrix ask) kept h = ap Matrix (own-converse ask kept h)
+mutual-ask (Near reach) kept h = refl
+
 -- what the two layers of a rule are, where both are one and the ask is its own converse
-pub is-mutual : (content : Content) (rule : LayerRule) (between : Between) (told : Bool) → IsBetween content rule [] between → IsLayer between.first.now → told ≡ (between.one && is_own_converse between.ask) → told ≡ true
+pub is-mutual : (content : Content) (rule : LayerRule) (between : Between) (told : Bool) → IsBetween content rule [] between → IsLayer between.first.now → told ≡ (between.one && is_mutual_ask between.ask) → told ≡ true
     → IsMutual between
 is-mutual content rule between told is fine says so =
-    let h = and_true between.one (is_own_converse between.ask) (sym says ∙ so) in
+    let h = and_true between.one (is_mutual_ask between.ask) (sym says ∙ so) in
     let names : rule.first ≡ rule.second = (bytes_eq-Decides rule.first rule.second).0 (sym is.one ∙ h.0) in
-    let nine : HasNineLetters between.ask = subst HasNineLetters (sym is.ask) is.nine in
-    let turned : between.converse ≡ converse between.ask = is.turned ∙ ap converse (sym is.ask) in
+    let askable : IsPairAsk between.ask = subst IsPairAsk (sym is.ask) is.askable in
+    let turned : between.converse ≡ converse_pair between.ask = is.turned ∙ ap converse_pair (sym is.ask) in
     record {
       one = h.0;
       same = some-same between.second.now between.first.now (sym is.second ∙ ap (layer_of content) (sym names) ∙ is.first);
-      own = turned ∙ own-converse between.ask nine h.1;
+      own = turned ∙ mutual-ask between.ask askable h.1;
       turned = turned;
-      nine = nine;
+      askable = askable;
       leaves = is.leaves;
       fine = fine;
     }
@@ -194,21 +200,21 @@ pub once-begins : (between : Between) (left : List (ℕ × FeatureContent)) → 
 once-begins between left is = record { done = []; splits = sym is; none = tt; first = ap (λ es. first_of (flat_map (pairs_of_entry between) es)) is }
 
 module _ (between : Between) (both : IsMutual between) where
-  turn : (a b : Geometry) → is_asked between.converse a b ≡ is_asked between.converse b a
-  turn a b = ap (λ ask. is_asked ask a b) both.own ∙ asks-turn-round between.ask a b both.nine ∙ ap (λ ask. is_asked ask b a) (sym both.turned)
+  turn : (a b : Geometry) → are_asked between.converse a b ≡ are_asked between.converse b a
+  turn a b = ap (λ ask. are_asked ask a b) both.own ∙ pairs-turn-round between.ask a b both.askable ∙ ap (λ ask. are_asked ask b a) (sym both.turned)
 
   partner : (i j : ℕ) → is_partner between i j ≡ not (nat_eq i j)
   partner i j = partner-now between i j both.leaves ∙ ap (λ one. are_distinct one i j) both.one
 
   -- a feature that is as asked with one before it is its partner
-  found-again : (e : ℕ × FeatureContent) (j : ℕ) (f : FeatureContent) → lookup (nat_eq e.0) between.first.now.features ≡ Some e.1 → is_asked between.converse f.geometry e.1.geometry ≡ true → j < e.0
+  found-again : (e : ℕ × FeatureContent) (j : ℕ) (f : FeatureContent) → lookup (nat_eq e.0) between.first.now.features ≡ Some e.1 → are_asked between.converse f.geometry e.1.geometry ≡ true → j < e.0
       → pairs_with between j f.geometry ≡ [] → ⊥
   found-again e j f there asked below none =
       none-in (Pair j e.0)
       (subst (λ pairs. Has pairs (Pair j e.0)) none
       (contains-map (λ k. Pair j k) (filter (is_partner between j) (partners between f.geometry)) e.0
       (contains-filter (is_partner between j) (partners between f.geometry) e.0
-      (passes-found (λ g. is_asked between.converse g.geometry f.geometry) between.second.now.features e.0 e.1 (ap (λ layer. feature_of layer e.0) both.same ∙ there) (turn e.1.geometry f.geometry ∙ asked))
+      (passes-found (λ g. are_asked between.converse g.geometry f.geometry) between.second.now.features e.0 e.1 (ap (λ layer. feature_of layer e.0) both.same ∙ there) (turn e.1.geometry f.geometry ∙ asked))
       (partner j e.0 ∙ ap not (ne_eqb j e.0 (λ same. omega arith))))))
 
   -- so all pairs of an entry are with those behind it, where none of those before it has any
@@ -224,7 +230,7 @@ module _ (between : Between) (both : IsMutual between) where
           by true less same is = grind (arith, nat_tests)
           by false less true is = less ∙ ap not (sym is)
           by false less false is =
-              let f = found-passes (λ g. is_asked between.converse g.geometry e.1.geometry) between.second.now.features j (subst (λ layer. IsStrictlySortedBy nat_cmp (keys_of layer.features)) (sym both.same) both.fine.rising) c in
+              let f = found-passes (λ g. are_asked between.converse g.geometry e.1.geometry) between.second.now.features j (subst (λ layer. IsStrictlySortedBy nat_cmp (keys_of layer.features)) (sym both.same) both.fine.rising) c in
               let below : j < e.0 = grind (arith, nat_tests) in
               absurd (found-again e j f.0 there f.2 below (before j f.0 (sym (ap (λ layer. feature_of layer j) both.same) ∙ f.1) below))
 

@@ -5,6 +5,7 @@ use Rattle.std.specs.List.{AllByRecursion, list_any}
 use Rattle.std.specs.List.Sorted.{IsStrictlySortedBy}
 use Rattle.std.specs.Map.{keys_of, values_of, lookup}
 use Rattle.std.specs.Option.{option_map_or}
+use Rattle.sf_geometry.specs.declared.geometry.Geometry.{Geometry}
 use Rattle.sf_geometry.specs.Envelope.{envelope_of, extents_meet}
 use Rattle.sf_valid_rules.specs.Validity.{IsValid}
 use Rattle.std.specs.Ordering.{nat_cmp}
@@ -13,9 +14,10 @@ use Rattle.sf_features.specs.Features.{FeatureContent}
 use Rattle.sf_layers.specs.Content.{LayerContent, feature_of}
 use Rattle.sf_layers.specs.WellFormed.{IsFeature, IsLayer}
 use Rattle.sf_layers.proofs.Values.{lookup-below}
-use Rattle.sf_query.specs.declared.ask.Ask.{Ask}
-use Rattle.sf_query.specs.Answers.{is_asked, needs_contact}
-use Rattle.sf_query.proofs.QueryLaws.{far-fails}
+use Rattle.sf_joins.specs.Passed.{PairAsk}
+use Rattle.sf_joins.specs.Passed.{Matrix, Near}
+use Rattle.sf_joins.specs.Passed.{are_asked, pair_needs_contact}
+use Rattle.sf_joins.proofs.Passed.{far-fails}
 use Rattle.sf_joins.specs.Joins.{are_distinct, is_pair, pairs_found}
 use Rattle.sf_rules.specs.declared.breaks.Break.{Break}
 use Rattle.sf_rules.specs.Rules.{alone_break, first_of, lacks_partner, pair_break}
@@ -92,14 +94,14 @@ module _ {X : Type 0} where
 -- ---- a rule that forbids
 
 -- where it held no two features that were there were as asked
-none-before : (one : Bool) (first second : LayerContent) (ask : Ask) → first_of (map pair_break (pairs_found one first ask second)) ≡ None → (i : ℕ) (a : FeatureContent) (j : ℕ) (b : FeatureContent)
+none-before : (one : Bool) (first second : LayerContent) (ask : PairAsk) → first_of (map pair_break (pairs_found one first ask second)) ≡ None → (i : ℕ) (a : FeatureContent) (j : ℕ) (b : FeatureContent)
     → feature_of first i ≡ Some a → feature_of second j ≡ Some b → is_pair one ask (i, a) (j, b) ≡ false
 none-before one first second ask held i a j b there there' =
     let all : pairs_found one first ask second ≡ [] = no-first pair_break (pairs_found one first ask second) held in
     let row = flat_map-empty (λ x. map (λ y. (x.0, y.0)) (filter (is_pair one ask x) second.features)) first.features all i a there in
     filter-empty (is_pair one ask (i, a)) second.features (map-empty (λ y. (i, y.0)) (filter (is_pair one ask (i, a)) second.features) row) j b there'
 
-never-near : (one : Bool) (old_first first old_second second : LayerContent) (ask : Ask) (of_first of_second : Changed) → IsLayer first → IsLayer second
+never-near : (one : Bool) (old_first first old_second second : LayerContent) (ask : PairAsk) (of_first of_second : Changed) → IsLayer first → IsLayer second
     → KeepsOthers old_first first of_first → KeepsOthers old_second second of_second → first_of (map pair_break (pairs_found one old_first ask old_second)) ≡ None
     → first_of (map pair_break (pairs_found one first ask second)) ≡ first_of (map pair_break (changed_pairs one first ask second of_first of_second))
 never-near one old_first first old_second second ask of_first of_second fine fine' keeps keeps' held =
@@ -183,19 +185,24 @@ module _ {X : Type 0} where
       by true h later = let is : e.1 ≡ v = cc in subst P is all.0
       by false h later = later h
 
+-- where the ask needs contact, geometries whose boxes don't meet are not as asked
+pair-far-fails : (ask : PairAsk) (a b : Geometry) → IsTrue (pair_needs_contact ask) → IsValid a → IsValid b → extents_meet (envelope_of a) (envelope_of b) ≡ false → are_asked ask a b ≡ false
+pair-far-fails (Matrix ask) a b needs va vb far = far-fails ask a b needs va vb far
+pair-far-fails (Near reach) a b needs va vb far = cc
+
 -- features that are as asked, where contact is needed, have boxes that meet
-boxes-met : (one : Bool) (ask : Ask) (i j : ℕ) (a b : FeatureContent) → IsTrue (needs_contact ask) → IsValid a.geometry → IsValid b.geometry → is_pair one ask (i, a) (j, b) ≡ true
+boxes-met : (one : Bool) (ask : PairAsk) (i j : ℕ) (a b : FeatureContent) → IsTrue (pair_needs_contact ask) → IsValid a.geometry → IsValid b.geometry → is_pair one ask (i, a) (j, b) ≡ true
     → extents_meet (envelope_of a.geometry) (envelope_of b.geometry) ≡ true
 boxes-met one ask i j a b needs fine fine' pair = by (extents_meet (envelope_of a.geometry) (envelope_of b.geometry)) refl
   where
     by : (m : Bool) → extents_meet (envelope_of a.geometry) (envelope_of b.geometry) ≡ m → m ≡ true
     by true is = refl
     by false is =
-        let asked : is_asked ask a.geometry b.geometry ≡ true = (and_split (are_distinct one i j) (is_asked ask a.geometry b.geometry) pair).1 in
-        let fails : is_asked ask a.geometry b.geometry ≡ false = far-fails ask a.geometry b.geometry needs fine fine' is in
+        let asked : are_asked ask a.geometry b.geometry ≡ true = (and_split (are_distinct one i j) (are_asked ask a.geometry b.geometry) pair).1 in
+        let fails : are_asked ask a.geometry b.geometry ≡ false = pair-far-fails ask a.geometry b.geometry needs fine fine' is in
         sym fails ∙ asked
 
-each-near : (one : Bool) (old_first first old_second second : LayerContent) (ask : Ask) (of_first of_second : Changed) → IsLayer old_first → IsLayer first → IsLayer old_second → IsLayer second
+each-near : (one : Bool) (old_first first old_second second : LayerContent) (ask : PairAsk) (of_first of_second : Changed) → IsLayer old_first → IsLayer first → IsLayer old_second → IsLayer second
     → KeepsOthers old_first first of_first → KeepsOthers old_second second of_second → first_of (map alone_break (keys_of (filter (lacks_partner one ask old_second) old_first.features))) ≡ None
     → first_of (map alone_break (keys_of (filter (lacks_partner one ask second) first.features))) ≡ first_of (map alone_break (alone_near one first ask old_second second of_first of_second))
 each-near one old_first first old_second second ask of_first of_second old_fine fine old_fine' fine' keeps keeps' held =
@@ -218,7 +225,7 @@ each-near one old_first first old_second second ask of_first of_second old_fine 
     parts true c w h = let both = or_split c w h in (refl, both.0, both.1)
     parts false c w h = cc
 
-    partnered : (i : ℕ) (a : FeatureContent) → feature_of old_first i ≡ Some a → needs_contact ask ≡ true → was_near old_second of_second a.geometry ≡ false → IsFoundWith (is_pair one ask (i, a)) old_second.features
+    partnered : (i : ℕ) (a : FeatureContent) → feature_of old_first i ≡ Some a → pair_needs_contact ask ≡ true → was_near old_second of_second a.geometry ≡ false → IsFoundWith (is_pair one ask (i, a)) old_second.features
         → list_any (is_pair one ask (i, a)) second.features ≡ true
     partnered i a there needs far f = at (is_changed of_second f.key) refl
       where
@@ -238,7 +245,7 @@ each-near one old_first first old_second second ask of_first of_second old_fine 
         → lacks_partner one ask second (i, a) ≡ m && lacks_partner one ask second (i, a)
     by i a there true is = refl
     by i a there false is =
-        let p = parts (needs_contact ask) (is_changed of_first i) (was_near old_second of_second a.geometry) is in
+        let p = parts (pair_needs_contact ask) (is_changed of_first i) (was_near old_second of_second a.geometry) is in
         let old_there : feature_of old_first i ≡ Some a = sym (keeps i p.1) ∙ there in
         let had : list_any (is_pair one ask (i, a)) old_second.features ≡ true =
         not_false (list_any (is_pair one ask (i, a)) old_second.features) (filter-empty (lacks_partner one ask old_second) old_first.features none_alone i a old_there) in

@@ -5,7 +5,7 @@ use Rattle.std.specs.List.{Contains, list_any, position_or_len}
 use Rattle.std.specs.Map.{keys_of}
 use Rattle.sf_layers.specs.Content.{Content, LayerContent, feature_at, feature_of, layer_at, layer_of, place_of}
 use Rattle.sf_features.specs.Features.{FeatureContent}
-use Rattle.sf_joins.specs.Converse.{HasNineLetters, converse}
+use Rattle.sf_joins.specs.Converse.{IsPairAsk, converse_pair}
 use Rattle.sf_layers.specs.WellFormed.{IsWellFormed}
 use Rattle.sf_patches.specs.Merged.{is_of_id}
 use Rattle.sf_joins.specs.Joins.{pairs_found}
@@ -23,7 +23,7 @@ use Rattle.sf_rules.specs.Rules.{alone_break, break_between, break_by, break_of,
 use Rattle.sf_rules.specs.Looks.{looked_at, staying}
 use Rattle.sf_rules.specs.Leaving.{is_leaving}
 use Rattle.sf_rules.specs.Underway.{CanLeave, ComesOf, IsBetween}
-use Rattle.sf_query.proofs.QueryLaws.{layer-fits}
+use Rattle.sf_joins.proofs.Passed.{layer-fits}
 use Rattle.sf_patches.proofs.TakenBack.{IsWellFormed-patched}
 use Rattle.sf_rules.proofs.LookLaws.{IsAround, alone-looked, pairs-looked}
 use Rattle.sf_rules.proofs.PlaceLaws.{kept-at, layer-at, layer-missing, layer-there, recorded-at, stays-at}
@@ -108,8 +108,8 @@ module _ (old now : Content) (rule : LayerRule) (made leaving : List Slot) (betw
 
   around : IsAround between old-there.first old-there.second new-there.first new-there.second made
   around = record {
-    nine = subst HasNineLetters (sym is.ask) is.nine;
-    turned = is.turned ∙ ap converse (sym is.ask);
+    askable = subst IsPairAsk (sym is.ask) is.askable;
+    turned = is.turned ∙ ap converse_pair (sym is.ask);
     rising = (layer-fits now rule.first between.first.now is.well_formed is.first).rising;
     risings = (layer-fits now rule.second between.second.now is.well_formed is.second).rising;
     new_rising = (layer-fits new rule.first new-there.first new-fine new-there.first_of_name).rising;

@@ -11,10 +11,10 @@ use Rattle.std.proofs.lemmas.Bool.Decides.{nat_tests}
 use Rattle.sf_layers.specs.Content.{Content, LayerContent, layer_of}
 use Rattle.sf_geometry.specs.declared.geometry.Geometry.{Geometry}
 use Rattle.sf_features.specs.Features.{FeatureContent}
-use Rattle.sf_joins.specs.Converse.{HasNineLetters, converse}
+use Rattle.sf_joins.specs.Converse.{IsPairAsk, converse_pair}
 use Rattle.sf_layers.specs.WellFormed.{IsLayer}
 use Rattle.sf_joins.specs.Joins.{are_distinct, is_pair}
-use Rattle.sf_query.specs.Answers.{is_asked}
+use Rattle.sf_joins.specs.Passed.{are_asked}
 use Rattle.sf_patches.specs.declared.slot.Slot.{Slot}
 use Rattle.sf_rules.specs.declared.between.Between.{Between}
 use Rattle.sf_rules.specs.declared.rule.LayerRule.{LayerRule}
@@ -26,7 +26,7 @@ use Rattle.sf_rules.specs.Rules.{alone_break, break_by, break_between, breaks_be
 use Rattle.sf_rules.specs.Leaving.{is_leaving}
 use Rattle.sf_rules.specs.Looks.{alone_of_entry, has_partner, is_partner, pairs_of_entry, pairs_with, partners, staying}
 use Rattle.sf_rules.specs.Underway.{IsBetween}
-use Rattle.sf_query.proofs.FilterLaws.{rising-filter}
+use Rattle.sf_joins.proofs.Passed.{rising-filter}
 use Rattle.sf_joins.proofs.LoopLaws.{numbers_with, row-by-converse}
 use Rattle.sf_joins.proofs.PlaneLaws.{row}
 use Rattle.sf_rules.proofs.LeastLaws.{BeginsWithLeast, least-first}
@@ -90,7 +90,7 @@ row-least between entry geometry fine is =
     least-first (pairs_with between entry.0 geometry) (pairs_with between entry.0 geometry)
     (row-begins-least entry.0 (filter (is_partner between entry.0) (partners between geometry))
     (rising-numbers (is_partner between entry.0) (partners between geometry)
-    (rising-filter (λ e. is_asked between.converse e.1.geometry geometry) between.second.now.features fine.rising))) (λ x c. c) (λ x c. c)
+    (rising-filter (λ e. are_asked between.converse e.1.geometry geometry) between.second.now.features fine.rising))) (λ x c. c) (λ x c. c)
     ∙ ap (λ g. first_of (pairs_with between entry.0 g)) is
 
 pub lacking-least : (between : Between) (entry : ℕ × FeatureContent) → least_from None (alone_of_entry between entry) ≡ first_of (alone_of_entry between entry)
@@ -140,7 +140,7 @@ whole-never content rule between is form =
         ap (map (λ j. Pair e.0 j)) (filter-same (is_partner between e.0) (are_distinct between.one e.0) (partners between e.1.geometry) (λ j. partner-now between e.0 j is.leaves))
         ∙ sym (map-pairs e.0 (filter (are_distinct between.one e.0) (partners between e.1.geometry)))
         ∙ ap (λ o. map pair_break (numbers_with e.0 (filter (are_distinct o e.0) (partners between e.1.geometry)))) is.one
-        ∙ ap (map pair_break) (row-by-converse (of_one rule) rule.ask between.converse between.second.now e e.1.geometry is.nine is.turned refl)
+        ∙ ap (map pair_break) (row-by-converse (of_one rule) rule.ask between.converse between.second.now e e.1.geometry is.askable is.turned refl)
 
     all : (es : List (ℕ × FeatureContent)) → flat_map (pairs_of_entry between) es ≡ map pair_break (flat_map (row (of_one rule) rule.ask between.second.now) es)
     all [] = refl
@@ -153,8 +153,8 @@ whole-never content rule between is form =
 around-now : (content : Content) (rule : LayerRule) (between : Between) → IsBetween content rule [] between → IsLayer between.first.now → IsLayer between.second.now
     → IsAround between between.first.now between.second.now between.first.now between.second.now []
 around-now content rule between is fine fines = record {
-  nine = subst HasNineLetters (sym is.ask) is.nine;
-  turned = is.turned ∙ ap converse (sym is.ask);
+  askable = subst IsPairAsk (sym is.ask) is.askable;
+  turned = is.turned ∙ ap converse_pair (sym is.ask);
   rising = fine.rising;
   risings = fines.rising;
   new_rising = fine.rising;

@@ -13,10 +13,11 @@ use Rattle.sf_rules.specs.declared.breaks.Break.{Break}
 use Rattle.sf_rules.specs.declared.breaks.Break.TheVariants.{Alone, Pair}
 use Rattle.sf_rules.specs.declared.column.InColumn.{InColumn}
 use Rattle.sf_rules.specs.declared.rule.Demand.{Demand}
-use Rattle.sf_rules.specs.declared.rule.Demand.TheVariants.{Required, Unique}
+use Rattle.sf_rules.specs.declared.rule.Demand.TheVariants.{Unique}
 use Rattle.sf_rules.specs.declared.rule.ValueRule.{ValueRule}
 use Rattle.sf_rules.specs.Leaving.{is_leaving}
 use Rattle.sf_rules.specs.Looks.{staying}
+use Rattle.sf_rules.specs.Rules.{is_wrong}
 
 -- the column of a rule in a content, with the features that are still to be removed
 pub record IsInColumn (content : Content) (rule : ValueRule) (leaving : List Slot) (column : InColumn) : Type 0 where
@@ -50,15 +51,14 @@ abbrev pub doubles_beside : InColumn → ℕ → Option AttrValue → List Break
 doubles_beside column i None = []
 doubles_beside column i (Some value) = map (double_of i) (filter (is_other column i) (ids_with_value column.number value column.layer.now))
 
--- a feature by itself, where it has no value
-abbrev pub lacking_by : ℕ → Option AttrValue → List Break
-lacking_by i None = Alone i ∷ []
-lacking_by i (Some value) = []
+-- a feature by itself, where what it has, a value or none, breaks the rule
+abbrev pub wrong_by : Demand → ℕ → Option AttrValue → List Break
+wrong_by demand i found = if is_wrong demand found then Alone i ∷ [] else []
 
--- the breaks with a feature of this value, or of none
+-- the breaks with a feature that has this value, or none
 abbrev pub values_beside : Demand → InColumn → ℕ → Option AttrValue → List Break
 values_beside Unique column i value = doubles_beside column i value
-values_beside Required column i value = lacking_by i value
+values_beside demand column i value = wrong_by demand i value
 
 abbrev pub values_of_some : Demand → InColumn → ℕ → Option FeatureContent → List Break
 values_of_some demand column i None = []
@@ -78,15 +78,6 @@ values_looked_at demand column made = flat_map (values_of_slot demand column) ma
 
 -- ---- of all features
 
--- the pairs of a feature with those behind it that have its value
-abbrev pub doubles_behind : InColumn → ℕ → Option AttrValue → List Break
-doubles_behind column i None = []
-doubles_behind column i (Some value) = map (λ j. Pair i j) (filter (λ j. nat_lt i j) (ids_with_value column.number value column.layer.now))
-
-abbrev pub values_behind : Demand → InColumn → ℕ → Option AttrValue → List Break
-values_behind Unique column i value = doubles_behind column i value
-values_behind Required column i value = lacking_by i value
-
--- the breaks of an entry of the layer with those behind it, or by itself
-abbrev pub values_of_entry : Demand → InColumn → ℕ × FeatureContent → List Break
-values_of_entry demand column entry = values_behind demand column entry.0 (value_in column.number entry.1)
+-- an entry of the layer, where what it has breaks the rule by itself
+abbrev pub wrong_of_entry : Demand → ℕ → ℕ × FeatureContent → List Break
+wrong_of_entry demand number entry = wrong_by demand entry.0 (value_in number entry.1)

@@ -1,5 +1,5 @@
 -- When rules hold: those between features over all points of the plane.
-use Rattle.std.specs.Prelude.{◌≡◌, ◌<◌, ◌↔◌, ℕ, Bool, false, List, Contains, IsSome, IsTrue, None, Option, Some, is_some, slice_get}
+use Rattle.std.specs.Prelude.{◌≡◌, ◌<◌, ◌↔◌, ℕ, Bool, false, true, List, Contains, IsSome, IsTrue, None, Option, Some, is_some, slice_get}
 use Rattle.std.specs.List.{AllByRecursion}
 use Rattle.std.specs.List.Sorted.{IsStrictlySortedBy}
 use Rattle.std.specs.Map.{keys_of}
@@ -8,9 +8,10 @@ use Rattle.sf_features.specs.declared.attr_value.AttrValue.{AttrValue}
 use Rattle.sf_features.specs.declared.column.Column.{Column}
 use Rattle.sf_features.specs.Features.{FeatureContent, value_in}
 use Rattle.sf_layers.specs.Content.{Content, LayerContent, column_named, feature_of, has_layer, layer_of}
+use Rattle.sf_layers.specs.declared.value_range.ValueRange.{ValueRange}
 use Rattle.sf_layers.specs.WellFormed.{IsWellFormed}
-use Rattle.sf_query.specs.declared.ask.Ask.{Ask}
-use Rattle.sf_joins.specs.Joins.{IsJoined}
+use Rattle.sf_joins.specs.Passed.{PairAsk}
+use Rattle.sf_joins.specs.Joins.{HasValid, IsJoined}
 use Rattle.sf_rules.specs.declared.breaks.Break.{Break}
 use Rattle.sf_rules.specs.declared.breaks.Break.TheVariants.{Alone, Pair}
 use Rattle.sf_rules.specs.declared.breaks.Broken.{Broken}
@@ -22,19 +23,19 @@ use Rattle.sf_rules.specs.declared.rule.ValueRule.{ValueRule}
 use Rattle.sf_rules.specs.declared.rule.Says.{Says}
 use Rattle.sf_rules.specs.declared.rule.Says.TheVariants.{OfLayers, OfValues}
 use Rattle.sf_rules.specs.declared.rule.Demand.{Demand}
-use Rattle.sf_rules.specs.declared.rule.Demand.TheVariants.{Required, Unique}
+use Rattle.sf_rules.specs.declared.rule.Demand.TheVariants.{InRange, OneOf, Required, Unique}
 use Rattle.sf_rules.specs.Breaks.{is_before}
-use Rattle.sf_rules.specs.Rules.{breaks_between, breaks_in, first_broken, first_of, of_one}
+use Rattle.sf_rules.specs.Rules.{breaks_between, breaks_in, first_broken, first_of, is_in_range, of_one}
 
--- what breaks a rule: two distinct features whose matrix over the plane is as asked, or a feature that has no other with which it is so
-abbrev pub IsBreak : Form → Bool → LayerContent → Ask → LayerContent → Break → Type 0
+-- what breaks a rule: two distinct features that are as asked over the plane, or a feature that has no other with which it is so
+abbrev pub IsBreak : Form → Bool → LayerContent → PairAsk → LayerContent → Break → Type 0
 IsBreak Never one first ask second (Pair i j) = IsJoined one first ask second i j
 IsBreak Never one first ask second (Alone i) = ⊥
 IsBreak Each one first ask second (Alone i) = IsSome (feature_of first i) × ((j : ℕ) → IsJoined one first ask second i j → ⊥)
 IsBreak Each one first ask second (Pair i j) = ⊥
 
 -- no two distinct features are as asked; or for each of the first layer there is one of the second that is
-abbrev pub HoldsBetween : Form → Bool → LayerContent → Ask → LayerContent → Type 0
+abbrev pub HoldsBetween : Form → Bool → LayerContent → PairAsk → LayerContent → Type 0
 HoldsBetween Never one first ask second = (i j : ℕ) → IsJoined one first ask second i j → ⊥
 HoldsBetween Each one first ask second = (i : ℕ) (a : FeatureContent) → feature_of first i ≡ Some a → (j : ℕ) × IsJoined one first ask second i j
 
@@ -48,17 +49,25 @@ HoldsBy rule first second = ⊥
 abbrev pub HasValue : ℕ → LayerContent → ℕ → AttrValue → Type 0
 HasValue number layer i value = (a : FeatureContent) × (feature_of layer i ≡ Some a) × (value_in number a ≡ Some value)
 
--- what breaks a rule on values: two features that have the same value, or a feature that has none
+-- a value is in a range, by the order of values
+abbrev pub IsInRange : ValueRange → AttrValue → Type 0
+IsInRange range value = is_in_range range value ≡ true
+
+-- what breaks a rule on values: two features that have the same value, a feature that has none, or one that has a value that is not
+-- among those that are allowed, or not in the range
 abbrev pub IsValueBreak : Demand → ℕ → LayerContent → Break → Type 0
 IsValueBreak Unique number layer (Pair i j) = (i < j) × ((value : AttrValue) × HasValue number layer i value × HasValue number layer j value)
-IsValueBreak Unique number layer (Alone i) = ⊥
 IsValueBreak Required number layer (Alone i) = IsSome (feature_of layer i) × ((value : AttrValue) → HasValue number layer i value → ⊥)
-IsValueBreak Required number layer (Pair i j) = ⊥
+IsValueBreak (OneOf allowed) number layer (Alone i) = (value : AttrValue) × HasValue number layer i value × (Contains allowed value → ⊥)
+IsValueBreak (InRange range) number layer (Alone i) = (value : AttrValue) × HasValue number layer i value × (IsInRange range value → ⊥)
+IsValueBreak demand number layer found = ⊥
 
--- no two features have the same value; or each has one
+-- no two features have the same value; each has one; each value is among those that are allowed, or in the range
 abbrev pub HoldsOnValues : Demand → ℕ → LayerContent → Type 0
 HoldsOnValues Unique number layer = (i j : ℕ) (value : AttrValue) → HasValue number layer i value → HasValue number layer j value → i ≡ j
 HoldsOnValues Required number layer = (i : ℕ) → IsSome (feature_of layer i) → (value : AttrValue) × HasValue number layer i value
+HoldsOnValues (OneOf allowed) number layer = (i : ℕ) (value : AttrValue) → HasValue number layer i value → Contains allowed value
+HoldsOnValues (InRange range) number layer = (i : ℕ) (value : AttrValue) → HasValue number layer i value → IsInRange range value
 
 abbrev pub HoldsInColumn : Demand → LayerContent → Option Column → Type 0
 HoldsInColumn demand layer (Some column) = HoldsOnValues demand column.number layer
@@ -84,16 +93,16 @@ AllHold content rules = AllByRecursion (Holds content) rules
 -- ---- what is computed
 
 -- a list has just what breaks a rule, no one before the first; and none where the rule holds
-pub record AreBreaks (form : Form) (one : Bool) (first : LayerContent) (ask : Ask) (second : LayerContent) (breaks : List Break) : Type 0 where
+pub record AreBreaks (form : Form) (one : Bool) (first : LayerContent) (ask : PairAsk) (second : LayerContent) (breaks : List Break) : Type 0 where
   pub just : (x : Break) → Contains breaks x ↔ IsBreak form one first ask second x
   pub least : (x y : Break) → first_of breaks ≡ Some y → Contains breaks x → is_before x y ≡ false
   pub none : (first_of breaks ≡ None) ↔ HoldsBetween form one first ask second
 
--- of layers whose identifiers rise, what is computed is just that
+-- of layers whose identifiers rise and whose geometries are valid, what is computed is just that
 abbrev pub BreaksAreOverThePlane : Type 0
 BreaksAreOverThePlane =
-    (form : Form) (one : Bool) (first second : LayerContent) (ask : Ask)
-    → IsStrictlySortedBy nat_cmp (keys_of first.features) → IsStrictlySortedBy nat_cmp (keys_of second.features)
+    (form : Form) (one : Bool) (first second : LayerContent) (ask : PairAsk)
+    → IsStrictlySortedBy nat_cmp (keys_of first.features) → IsStrictlySortedBy nat_cmp (keys_of second.features) → HasValid first → HasValid second
     → AreBreaks form one first ask second (breaks_between form one first ask second)
 
 -- a list has just what breaks a rule on values, no one before the first; and none where the rule holds

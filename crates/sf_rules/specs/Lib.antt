@@ -5,6 +5,9 @@ pub mod Leaving
 pub mod Near
 pub mod Looks
 pub mod ColumnLooks
+pub mod Digests
+pub mod DigestOrder
+pub mod Doubles
 pub mod Underway
 pub mod Exchanging
 pub mod Asked

@@ -10,14 +10,16 @@ use Rattle.sf_geometry.specs.declared.geometry.Geometry.{Geometry}
 use Rattle.sf_features.specs.Features.{FeatureContent}
 use Rattle.sf_layers.specs.Content.{LayerContent, feature_of}
 use Rattle.sf_layers.specs.WellFormed.{IsLayer}
-use Rattle.sf_joins.specs.Converse.{HasNineLetters, converse}
+use Rattle.sf_joins.specs.Converse.{IsPairAsk, converse_pair}
 use Rattle.sf_joins.specs.Joins.{are_distinct}
 use Rattle.sf_known.specs.Patterns.{letter_character}
 use Rattle.sf_known.specs.declared.letter.Letter.{Letter}
 use Rattle.sf_known.specs.declared.predicate.Predicate.TheVariants.{Contains, Within}
-use Rattle.sf_query.specs.declared.ask.Ask.{Ask}
-use Rattle.sf_query.specs.declared.ask.Ask.TheVariants.{Matching, Named}
-use Rattle.sf_query.specs.Answers.{ids_found}
+use Rattle.sf_joins.specs.Passed.{PairAsk}
+use Rattle.sf_joins.specs.Passed.{Matrix, Near}
+use Rattle.sf_joins.specs.Passed.{Ask}
+use Rattle.sf_joins.specs.Passed.{Matching, Named}
+use Rattle.sf_joins.specs.Passed.{ids_asked}
 use Rattle.sf_rules.specs.declared.breaks.Break.{Break}
 use Rattle.sf_rules.specs.declared.rule.Form.{Form}
 use Rattle.sf_rules.specs.declared.rule.Form.TheVariants.{Never, Each}
@@ -37,11 +39,11 @@ is_partnered between j i = are_distinct between.one i j && not (is_leaving betwe
 
 -- the features of the second layer that are as asked with one of the first
 abbrev pub partners : Between → Geometry → List ℕ
-partners between geometry = ids_found between.second.now between.converse geometry
+partners between geometry = ids_asked between.second.now between.converse geometry
 
 -- the features of the first layer that are as asked with one of the second
 abbrev pub partnered : Between → Geometry → List ℕ
-partnered between geometry = ids_found between.first.now between.ask geometry
+partnered between geometry = ids_asked between.first.now between.ask geometry
 
 -- ---- two features that are as asked
 
@@ -90,13 +92,18 @@ is_own_converse (Named Within) = false
 is_own_converse (Named Contains) = false
 is_own_converse (Named predicate) = true
 
+-- so is what is asked of two features: how far apart they are is so either way round
+abbrev pub is_mutual_ask : PairAsk → Bool
+is_mutual_ask (Matrix ask) = is_own_converse ask
+is_mutual_ask (Near reach) = true
+
 -- a pair of two features of one layer is as asked from either side, and none leaves
 pub record IsMutual (between : Between) : Type 0 where
   pub one : between.one ≡ true
   pub same : between.second.now ≡ between.first.now
   pub own : between.converse ≡ between.ask
-  pub turned : between.converse ≡ converse between.ask
-  pub nine : HasNineLetters between.ask
+  pub turned : between.converse ≡ converse_pair between.ask
+  pub askable : IsPairAsk between.ask
   pub leaves : between.leaving.now ≡ []
   pub fine : IsLayer between.first.now
 

@@ -9,8 +9,8 @@ use Rattle.sf_geometry.specs.Envelope.{envelope_of, extents_meet}
 use Rattle.sf_features.specs.Features.{FeatureContent}
 use Rattle.sf_layers.specs.Content.{LayerContent, feature_of}
 use Rattle.sf_layers.specs.WellFormed.{IsLayer}
-use Rattle.sf_query.specs.declared.ask.Ask.{Ask}
-use Rattle.sf_query.specs.Answers.{needs_contact}
+use Rattle.sf_joins.specs.Passed.{PairAsk}
+use Rattle.sf_joins.specs.Passed.{pair_needs_contact}
 use Rattle.sf_joins.specs.Joins.{is_pair}
 use Rattle.sf_rules.specs.declared.rule.Form.TheVariants.{Each, Never}
 use Rattle.sf_rules.specs.Rules.{alone_break, breaks_between, first_of, lacks_partner, pair_break}
@@ -32,24 +32,24 @@ was_near old changed geometry =
     list_any (λ id. option_map_or (λ feature. extents_meet (envelope_of geometry) (envelope_of feature.geometry)) (feature_of old id) false) changed
 
 -- the pairs of which one is changed: all others stood there when the rule held
-abbrev pub changed_pairs : Bool → LayerContent → Ask → LayerContent → Changed → Changed → List (ℕ × ℕ)
+abbrev pub changed_pairs : Bool → LayerContent → PairAsk → LayerContent → Changed → Changed → List (ℕ × ℕ)
 changed_pairs one first ask second of_first of_second =
     flat_map (λ a. map (λ b. (a.0, b.0)) (filter (λ b. (is_changed of_first a.0 || is_changed of_second b.0) && is_pair one ask a b) second.features)) first.features
 
 -- the features of the first layer that may have lost their partner: those that are changed, and those that were near one of the
--- second that is; where the ask needs no contact, all
-abbrev pub may_be_alone : Ask → LayerContent → Changed → Changed → ℕ × FeatureContent → Bool
+-- second that is; where the ask needs no contact, as one for what is near, all
+abbrev pub may_be_alone : PairAsk → LayerContent → Changed → Changed → ℕ × FeatureContent → Bool
 may_be_alone ask old_second of_first of_second a =
-    if needs_contact ask then is_changed of_first a.0 || was_near old_second of_second a.1.geometry else true
+    if pair_needs_contact ask then is_changed of_first a.0 || was_near old_second of_second a.1.geometry else true
 
-abbrev pub alone_near : Bool → LayerContent → Ask → LayerContent → LayerContent → Changed → Changed → List ℕ
+abbrev pub alone_near : Bool → LayerContent → PairAsk → LayerContent → LayerContent → Changed → Changed → List ℕ
 alone_near one first ask old_second second of_first of_second =
     keys_of (filter (λ a. may_be_alone ask old_second of_first of_second a && lacks_partner one ask second a) first.features)
 
 -- of a rule that held, the first break after a change is among the features that were changed, and those that are near
 abbrev pub BreaksAreNear : Type 0
 BreaksAreNear =
-    (one : Bool) (old_first first old_second second : LayerContent) (ask : Ask) (of_first of_second : Changed)
+    (one : Bool) (old_first first old_second second : LayerContent) (ask : PairAsk) (of_first of_second : Changed)
     → IsLayer old_first → IsLayer first → IsLayer old_second → IsLayer second
     → KeepsOthers old_first first of_first → KeepsOthers old_second second of_second
     → (first_of (breaks_between Never one old_first ask old_second) ≡ None

@@ -2,15 +2,15 @@
 
 ghost use Rattle.std.specs.Prelude.{◌≡◌, IfOk, None, Some, flat_map, option_copied};
 ghost use Rattle.sf_rules.specs.Breaks.{least_from};
-ghost use Rattle.sf_rules.specs.Looks.{alone_at, alone_beside, alone_first, alone_if, alone_looked_at, alone_of_leaving, alone_of_slot, alone_second, has_partner as has_partner_of, is_partner, partnered};
+ghost use Rattle.sf_rules.specs.Looks.{alone_at, alone_first, alone_if, alone_looked_at, alone_of_leaving, alone_of_slot, alone_second, has_partner as has_partner_of, is_partner, partnered};
 ghost use Rattle.std.specs.List.{list_any};
 ghost use Rattle.sf_layers.specs.WellFormed.{IsLayer};
 
 use super::between::{Between, staying};
 use super::breaks::{Break, lesser};
+use sf_joins::ids_asked;
 use sf_layers::Feature;
 use sf_patches::Slot;
-use sf_query::features_asked;
 use sf_validity::Valid;
 use std::alloc::{AllocError, Global};
 
@@ -120,9 +120,9 @@ fn least_beside(
     ensures { IfOk result (λ found. found ≡ least_from least
         (flat_map (alone_at between.now) (partnered between.now valid.now))) }
 {
-    let found = features_asked(alloc, between.first, &between.ask, valid)?;
+    let found = ids_asked(alloc, between.first, &between.ask, valid)?;
     let mut least = least;
-    for id in found.ids.as_slice() {
+    for id in found.as_slice() {
         least = least_at(alloc, between, *id, least)?;
     }
     Ok(least)
@@ -171,8 +171,8 @@ fn has_partner(
     requires { IsLayer between.now.second.now }
     ensures { IfOk result (λ has. has ≡ has_partner_of between.now id valid.now) }
 {
-    let found = features_asked(alloc, between.second, &between.converse, valid)?;
-    Ok(is_any_partner(between, id, found.ids.as_slice()))
+    let found = ids_asked(alloc, between.second, &between.converse, valid)?;
+    Ok(is_any_partner(between, id, found.as_slice()))
 }
 
 /// Whether one of these features of the second layer is a partner.

@@ -1,11 +1,11 @@
 ghost use Rattle.std.specs.Prelude.{◌≡◌, ◌&&◌, option_copied};
-ghost use Rattle.sf_rules.specs.Looks.{is_own_converse as is_own_converse_of, is_partner as is_partner_of, is_partnered as is_partnered_of, is_symmetric as is_symmetric_of, staying as staying_of};
+ghost use Rattle.sf_rules.specs.Looks.{is_mutual_ask as is_mutual_ask_of, is_own_converse as is_own_converse_of, is_partner as is_partner_of, is_partnered as is_partnered_of, is_symmetric as is_symmetric_of, staying as staying_of};
 ghost use Rattle.sf_joins.specs.Joins.{are_distinct as are_distinct_of};
 
 use super::leaving::Leaving;
+use sf_joins::{Ask, PairAsk};
 use sf_known::{Letter, Predicate};
 use sf_layers::{Feature, Layer};
-use sf_query::Ask;
 
 /// Two layers of a store between which a rule is, and the features that are still to be removed from it.
 #[derive(Drop)]
@@ -17,18 +17,18 @@ pub(crate) struct Between<'a> {
     /// Whether both are one layer.
     pub(crate) one: bool,
     /// What the rule asks of a feature of the first layer with one of the second.
-    pub(crate) ask: Ask,
+    pub(crate) ask: PairAsk,
     /// The same the other way round.
-    pub(crate) converse: Ask,
+    pub(crate) converse: PairAsk,
     pub(crate) leaving: &'a Leaving<'a>,
 }
 
 impl<'a> Between<'a> {
     /// Whether a pair is as asked from either side: both layers are one, and the ask is its own converse.
     pub(crate) fn is_mutual(&self) -> bool
-        ensures { result ≡ (self.now.one && is_own_converse_of self.now.ask) }
+        ensures { result ≡ (self.now.one && is_mutual_ask_of self.now.ask) }
     {
-        self.one && is_own_converse(&self.ask)
+        self.one && is_mutual_ask(&self.ask)
     }
 
     /// Whether two features that are as asked break a rule that forbids it: they are distinct, and that of the second layer stays.
@@ -43,6 +43,16 @@ impl<'a> Between<'a> {
         ensures { result ≡ is_partnered_of self.now second first }
     {
         are_distinct(self.one, first, second) && !self.leaving.has(self.first_place, first)
+    }
+}
+
+/// Whether what is asked of two features is its own converse: how far apart they are is so either way round.
+fn is_mutual_ask(ask: &PairAsk) -> bool
+    ensures { result ≡ is_mutual_ask_of ask.now }
+{
+    match ask {
+        PairAsk::Matrix(ask) => is_own_converse(ask),
+        PairAsk::Near(_) => true,
     }
 }
 

@@ -1,18 +1,18 @@
 //! What breaks a rule on the values in a column: two features that have the same value, or one that has none.
 
-ghost use Rattle.std.specs.Prelude.{◌≡◌, IfOk, None, Some, filter, flat_map, map, nat_lt, option_copied};
-ghost use Rattle.std.specs.List.{find};
-ghost use Rattle.sf_layers.specs.Content.{column_named};
-ghost use Rattle.sf_rules.specs.declared.breaks.Break.TheVariants.{Pair};
+ghost use Rattle.std.specs.Prelude.{◌≡◌, IfOk, None, Some, filter, map, option_copied};
+ghost use Rattle.std.specs.Map.{keys_of};
+ghost use Rattle.sf_layers.specs.WellFormed.{IsLayer};
 ghost use Rattle.sf_rules.specs.Breaks.{least_from};
-ghost use Rattle.sf_rules.specs.ColumnLooks.{IsInColumnOrMissing, double_of, doubles_behind, doubles_beside, is_other as is_other_of, lacking_by, values_at, values_behind, values_beside, values_looked_at, values_of_entry, values_of_slot, values_of_some};
-ghost use Rattle.sf_rules.specs.Rules.{first_of};
+ghost use Rattle.sf_rules.specs.ColumnLooks.{IsInColumnOrMissing, double_of, doubles_beside, is_other as is_other_of, values_at, values_beside, values_looked_at, values_of_slot, values_of_some, wrong_by};
+ghost use Rattle.sf_rules.specs.Rules.{alone_break, breaks_in, first_of, has_wrong};
 
 use super::between::staying;
 use super::breaks::{Break, lesser};
+use super::doubles::first_double_of_all;
 use super::leaving::Leaving;
 use super::rule::{Demand, Rule, Says, ValueRule};
-use sf_layers::{AttrValue, Column, Feature, Layer, Store};
+use sf_layers::{AttrValue, Feature, Layer, Store};
 use sf_patches::Slot;
 use std::alloc::{AllocError, Global};
 
@@ -50,7 +50,7 @@ pub(crate) fn column_of<'a>(
     let Some(place) = store.place(rule.layer.as_str()) else {
         return None;
     };
-    let Some(column) = column_by_name(layer, rule.column.as_str()) else {
+    let Some(column) = layer.column(rule.column.as_str()) else {
         return None;
     };
     Some(InColumn {
@@ -61,107 +61,56 @@ pub(crate) fn column_of<'a>(
     })
 }
 
-/// The column of a name, or None where the layer has none.
-fn column_by_name<'a>(layer: &'a Layer, name: &str) -> Option<&'a Column>
-    ensures { option_copied result ≡ column_named layer.now name.now }
-{
-    match layer.column_place(name) {
-        Some(place) => layer.column_at(place),
-        None => None,
-    }
-}
-
 /// What breaks the rule first, of all features.
 pub(crate) fn first_in_column(
     alloc: Global,
-    demand: Demand,
+    demand: &Demand,
     column: &InColumn<'_>,
 ) -> Result<Option<Break>, AllocError>
+    requires { IsLayer column.now.layer.now }
     ensures { IfOk result (λ found. found ≡ first_of
-        (flat_map (values_of_entry demand column.now) column.now.layer.now.features)) }
-{
-    for (id, feature) in column.layer.features() {
-        let first = first_of_feature(alloc, demand, column, *id, feature.value(column.number))?;
-        if first.is_some() {
-            return Ok(first);
-        }
-    }
-    Ok(None)
-}
-
-/// The first break of a feature with one behind it, or by itself.
-fn first_of_feature(
-    alloc: Global,
-    demand: Demand,
-    column: &InColumn<'_>,
-    id: u32,
-    value: Option<&AttrValue>,
-) -> Result<Option<Break>, AllocError>
-    ensures { IfOk result (λ found. found ≡ first_of
-        (values_behind demand column.now id (option_copied value.entry))) }
+        (breaks_in demand.now column.now.number column.now.layer.now)) }
 {
     match demand {
-        Demand::Unique => first_double(alloc, column, id, value),
-        Demand::Required => Ok(first_lacking(id, value)),
+        Demand::Unique => first_double_of_all(alloc, column.layer, column.number),
+        _ => Ok(first_wrong_of_all(demand, column.layer, column.number)),
     }
 }
 
-/// The first pair of a feature with one behind it that has the same value.
-fn first_double(
-    alloc: Global,
-    column: &InColumn<'_>,
-    id: u32,
-    value: Option<&AttrValue>,
-) -> Result<Option<Break>, AllocError>
-    ensures { IfOk result (λ found. found ≡ first_of
-        (doubles_behind column.now id (option_copied value.entry))) }
+/// The first feature that breaks the rule by itself.
+fn first_wrong_of_all(demand: &Demand, layer: &Layer, number: u16) -> Option<Break>
+    ensures { result ≡ first_of
+        (map alone_break (keys_of (filter (has_wrong demand.now number) layer.now.features))) }
 {
-    let Some(value) = value else {
-        return Ok(None);
-    };
-    let ids = column.layer.ids_with_value(alloc, column.number, value)?;
-    Ok(first_behind(id, ids.as_slice()))
-}
-
-/// The pair of an identifier with the first of these behind it.
-fn first_behind(id: u32, others: &[u32]) -> Option<Break>
-    ensures { result ≡ first_of (map (λ j. Pair id j) (filter (λ j. nat_lt id j) others.now)) }
-{
-    match behind(id, others) {
-        Some(second) => Some(Break::Pair {
-            first: id,
-            second: *second,
-        }),
-        None => None,
+    for (id, feature) in layer.features() {
+        let first = first_wrong(demand, *id, feature.value(number));
+        if first.is_some() {
+            return first;
+        }
     }
+    None
 }
 
-/// The first of these identifiers behind one.
-fn behind(id: u32, others: &[u32]) -> Option<&u32>
-    ensures { option_copied result ≡ find (λ j. nat_lt id j) others.now }
+/// A feature by itself, where what it has breaks the rule.
+fn first_wrong(demand: &Demand, id: u32, found: Option<&AttrValue>) -> Option<Break>
+    ensures { result ≡ first_of (wrong_by demand.now id (option_copied found.entry)) }
 {
-    others.iter().find(|other| id < **other)
-}
-
-/// A feature by itself, where it has no value.
-fn first_lacking(id: u32, value: Option<&AttrValue>) -> Option<Break>
-    ensures { result ≡ first_of (lacking_by id (option_copied value.entry)) }
-{
-    match value {
-        Some(_) => None,
-        None => Some(Break::Alone { id }),
+    if demand.is_wrong(found) {
+        Some(Break::Alone { id })
+    } else {
+        None
     }
 }
 
 /// The least break of the features that were changed.
 pub(crate) fn least_in_column(
     alloc: Global,
-    demand: Demand,
+    demand: &Demand,
     column: &InColumn<'_>,
     made: &[Slot],
 ) -> Result<Option<Break>, AllocError>
     ensures { IfOk result (λ found. found ≡ least_from None
-        (values_looked_at demand column.now made.now)) }
+        (values_looked_at demand.now column.now made.now)) }
 {
     let mut least = None;
     for slot in made {
@@ -173,13 +122,13 @@ pub(crate) fn least_in_column(
 /// The least of the breaks of what was changed under one identifier, and of what was the least before.
 fn least_of_slot(
     alloc: Global,
-    demand: Demand,
+    demand: &Demand,
     column: &InColumn<'_>,
     slot: &Slot,
     least: Option<Break>,
 ) -> Result<Option<Break>, AllocError>
     ensures { IfOk result (λ found. found ≡ least_from least
-        (values_of_slot demand column.now slot.now)) }
+        (values_of_slot demand.now column.now slot.now)) }
 {
     let Slot::State { place, id, .. } = slot else {
         return Ok(least);
@@ -188,16 +137,16 @@ fn least_of_slot(
 }
 
 /// The same of what stands under an identifier of a place.
-fn least_at(
+pub(crate) fn least_at(
     alloc: Global,
-    demand: Demand,
+    demand: &Demand,
     column: &InColumn<'_>,
     place: usize,
     id: u32,
     least: Option<Break>,
 ) -> Result<Option<Break>, AllocError>
     ensures { IfOk result (λ found. found ≡ least_from least
-        (values_at demand column.now place id)) }
+        (values_at demand.now column.now place id)) }
 {
     if place != column.place {
         return Ok(least);
@@ -211,14 +160,14 @@ fn least_at(
 /// The same of a feature.
 fn least_of(
     alloc: Global,
-    demand: Demand,
+    demand: &Demand,
     column: &InColumn<'_>,
     id: u32,
     feature: &Feature,
     least: Option<Break>,
 ) -> Result<Option<Break>, AllocError>
     ensures { IfOk result (λ found. found ≡ least_from least
-        (values_of_some demand column.now id (Some feature.now))) }
+        (values_of_some demand.now column.now id (Some feature.now))) }
 {
     least_by_value(
         alloc,
@@ -233,18 +182,18 @@ fn least_of(
 /// The same of a feature with this value, or with none.
 fn least_by_value(
     alloc: Global,
-    demand: Demand,
+    demand: &Demand,
     column: &InColumn<'_>,
     id: u32,
     value: Option<&AttrValue>,
     least: Option<Break>,
 ) -> Result<Option<Break>, AllocError>
     ensures { IfOk result (λ found. found ≡ least_from least
-        (values_beside demand column.now id (option_copied value.entry))) }
+        (values_beside demand.now column.now id (option_copied value.entry))) }
 {
     match demand {
         Demand::Unique => least_double(alloc, column, id, value, least),
-        Demand::Required => Ok(least_lacking(id, value, least)),
+        _ => Ok(least_wrong(demand, id, value, least)),
     }
 }
 
@@ -297,19 +246,25 @@ fn double(id: u32, other: u32) -> Break
     }
 }
 
-/// The lesser of a feature that has no value, and of what was the least before.
-fn least_lacking(id: u32, value: Option<&AttrValue>, least: Option<Break>) -> Option<Break>
-    ensures { result ≡ least_from least (lacking_by id (option_copied value.entry)) }
+/// The lesser of a feature by itself, where what it has breaks the rule, and of what was the least before.
+fn least_wrong(
+    demand: &Demand,
+    id: u32,
+    found: Option<&AttrValue>,
+    least: Option<Break>,
+) -> Option<Break>
+    ensures { result ≡ least_from least (wrong_by demand.now id (option_copied found.entry)) }
 {
-    match value {
-        Some(_) => least,
-        None => lesser(Break::Alone { id }, least),
+    if demand.is_wrong(found) {
+        lesser(Break::Alone { id }, least)
+    } else {
+        least
     }
 }
 
 /// Makes the index that a rule looks into, where there is none: that by value of a column whose values are to be unique. Where no
 /// memory is found, features are looked at one by one.
-pub fn make_index(alloc: Global, store: &mut Store, rule: &Rule)
+pub(crate) fn make_index(alloc: Global, store: &mut Store, rule: &Rule)
     ensures { store.new ≡ store.old }
 {
     let Some((place, number)) = unique_column(store, rule) else {
@@ -318,26 +273,17 @@ pub fn make_index(alloc: Global, store: &mut Store, rule: &Rule)
     store.index_values(alloc, place, number);
 }
 
-/// Whether a rule can be looked at without a pass over its layer for each feature: it needs no index by value, or has it.
-pub fn has_index(store: &Store, rule: &Rule) -> bool {
-    match unique_column(store, rule) {
-        Some((place, number)) => match store.layer_at(place) {
-            Some((_, layer)) => layer.has_value_index(number),
-            None => true,
-        },
-        None => true,
-    }
-}
-
 /// The place of the layer and the number of the column whose values are to be unique, where a rule says so and both are there.
 fn unique_column(store: &Store, rule: &Rule) -> Option<(usize, u16)> {
     let Says::OfValues(rule) = &rule.says else {
         return None;
     };
-    if rule.demand != Demand::Unique {
+    let Demand::Unique = rule.demand else {
         return None;
-    }
+    };
     let place = store.place(rule.layer.as_str())?;
-    let column = column_by_name(store.layer(rule.layer.as_str())?, rule.column.as_str())?;
+    let column = store
+        .layer(rule.layer.as_str())?
+        .column(rule.column.as_str())?;
     Some((place, column.number))
 }

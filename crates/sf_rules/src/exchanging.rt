@@ -61,8 +61,8 @@ pub fn exchange_under(
     exchange_looked_at(alloc, store, rules, halves)
 }
 
-/// Makes the indexes that rules look into, where there are none.
-fn make_indexes(alloc: Global, store: &mut Store, rules: &[Rule])
+/// Makes the indexes that rules look into, where there are none and memory is found.
+pub fn make_indexes(alloc: Global, store: &mut Store, rules: &[Rule])
     ensures { store.new ≡ store.old }
 {
     for rule in rules {

@@ -2,10 +2,14 @@
 //! under rules.
 #![tactic(auto)]
 
+mod allowed_values;
 mod alone;
+mod at_one;
 mod between;
 mod breaks;
 mod column;
+mod digested;
+mod doubles;
 mod exchanging;
 pub mod laws;
 mod leaving;
@@ -14,9 +18,10 @@ mod pairs;
 mod rule;
 mod whole;
 
+pub use allowed_values::{AllowedValues, VALUES_MAX};
+pub use at_one::first_broken_at;
 pub use breaks::{Break, Broken};
-pub use column::{has_index, make_index};
-pub use exchanging::{NotExchanged, exchange_under};
+pub use exchanging::{NotExchanged, exchange_under, make_indexes};
 pub use rule::{Demand, Form, LayerRule, Rule, Says, ValueRule};
-pub use sf_query::Ask;
+pub use sf_joins::{Ask, PairAsk};
 pub use whole::first_break;

@@ -119,7 +119,7 @@ fn break_near_values(
     let Some(column) = column_of(store, rule, leaving) else {
         return Ok(None);
     };
-    least_in_column(alloc, rule.demand, &column, made)
+    least_in_column(alloc, &rule.demand, &column, made)
 }
 
 /// The least break of those that are looked at.

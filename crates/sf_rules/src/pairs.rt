@@ -8,8 +8,8 @@ ghost use Rattle.sf_layers.specs.WellFormed.{IsLayer};
 
 use super::between::{Between, staying};
 use super::breaks::{Break, lesser};
+use sf_joins::{ids_asked, ids_asked_behind};
 use sf_patches::Slot;
-use sf_query::{features_asked, ids_asked_behind};
 use sf_validity::Valid;
 use std::alloc::{AllocError, Global};
 
@@ -99,9 +99,9 @@ pub(crate) fn least_with(
     requires { IsLayer between.now.second.now }
     ensures { IfOk result (λ found. found ≡ least_from least (pairs_with between.now id valid.now)) }
 {
-    let found = features_asked(alloc, between.second, &between.converse, valid)?;
+    let found = ids_asked(alloc, between.second, &between.converse, valid)?;
     let mut least = least;
-    for other in found.ids.as_slice() {
+    for other in found.as_slice() {
         if between.is_partner(id, *other) {
             least = lesser(
                 Break::Pair {
@@ -146,9 +146,9 @@ fn least_beside(
     requires { IsLayer between.now.first.now }
     ensures { IfOk result (λ found. found ≡ least_from least (pairs_beside between.now id valid.now)) }
 {
-    let found = features_asked(alloc, between.first, &between.ask, valid)?;
+    let found = ids_asked(alloc, between.first, &between.ask, valid)?;
     let mut least = least;
-    for other in found.ids.as_slice() {
+    for other in found.as_slice() {
         if between.is_partnered(id, *other) {
             least = lesser(
                 Break::Pair {

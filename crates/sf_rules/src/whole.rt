@@ -13,7 +13,7 @@ use super::column::{column_of, first_in_column};
 use super::leaving::Leaving;
 use super::pairs::{first_behind, least_with};
 use super::rule::{Form, LayerRule, Rule, Says, ValueRule};
-use sf_joins::converse;
+use sf_joins::converse_pair;
 use sf_layers::Store;
 use std::alloc::{AllocError, Global};
 
@@ -58,7 +58,7 @@ fn first_of_values(
     let Some(column) = column_of(store, rule, leaving) else {
         return Ok(None);
     };
-    first_in_column(alloc, rule.demand, &column)
+    first_in_column(alloc, &rule.demand, &column)
 }
 
 /// The same of a rule between layers.
@@ -107,7 +107,7 @@ pub(crate) fn layers_of<'a>(
         return None;
     };
     let one = rule.first.as_str() == rule.second.as_str();
-    let converse = converse(&rule.ask);
+    let converse = converse_pair(&rule.ask);
     Some(Between {
         first,
         first_place,

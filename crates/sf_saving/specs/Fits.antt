@@ -4,21 +4,13 @@ use Rattle.std.specs.Prelude.{ℕ, ◌<◌, List, length}
 use Rattle.std.specs.List.{AllByRecursion}
 use Rattle.std.specs.Map.{values_of}
 use Rattle.sf_geometry.specs.Size.{IsSized}
-use Rattle.sf_features.specs.declared.attr_value.AttrValue.{AttrValue}
-use Rattle.sf_features.specs.declared.attr_value.AttrValue.TheVariants.{Text}
 use Rattle.sf_features.specs.Features.{FeatureContent}
 use Rattle.sf_layers.specs.Content.{LayerContent}
-
--- a text has a length of two bytes
-abbrev pub ValueFits : AttrValue → Type 0
-ValueFits (Text text) = length text < 65536
-ValueFits value = Unit {0}
 
 -- a geometry is sized, so that its length has four bytes; the values have a count of two bytes
 pub record FeatureFits (feature : FeatureContent) : Type 0 where
   pub sized : IsSized feature.geometry
   pub few : length feature.values < 65536
-  pub values : AllByRecursion (λ entry. ValueFits entry.1) feature.values
 
 -- columns have a count of two bytes, features one of four
 pub record EntryFits (entry : List ℕ × LayerContent) : Type 0 where

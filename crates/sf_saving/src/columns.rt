@@ -9,7 +9,7 @@ use sf_streams::{Output, WriteFault};
 use std::io::Write;
 
 /// The byte of a column's type.
-fn type_byte(column_type: ColumnType) -> u8
+pub(crate) fn type_byte(column_type: ColumnType) -> u8
     ensures { result ≡ type_byte_of column_type }
 {
     match column_type {

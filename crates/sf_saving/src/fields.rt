@@ -1,5 +1,5 @@
 //! Texts behind their lengths.
-ghost use Rattle.std.specs.Prelude.{◌<◌, ◌++◌, length, OnErr, OnOk};
+ghost use Rattle.std.specs.Prelude.{◌++◌, OnErr, OnOk};
 ghost use Rattle.sf_format.specs.Canonical.{behind_length};
 ghost use Rattle.sf_streams.specs.Streams.{Puts, WritesFront};
 
@@ -21,18 +21,17 @@ pub(crate) fn put_name<W: Write>(
     output.put(writer, name.as_bytes())
 }
 
-/// Puts the text of a value behind the two bytes of its length.
+/// Puts the text of a value behind the two bytes of its length, of which it has less than 65,536.
 pub(crate) fn put_text<W: Write>(
     output: &mut Output,
     writer: &mut W,
     text: &str,
 ) -> Result<(), WriteFault>
-    requires { length text.now < 65536 }
     ensures ok { OnOk result (Puts (W.contents writer.old) (W.contents writer.new) output.old output.new
         (behind_length 2 text.now)) }
     ensures broken { OnErr result (WritesFront (W.contents writer.old) (W.contents writer.new)
         (output.old ++ behind_length 2 text.now)) }
 {
-    output.put_u16(writer, text.len() as u16)?;
+    output.put_u16(writer, (text.len() % 65536) as u16)?;
     output.put(writer, text.as_bytes())
 }

@@ -1,6 +1,5 @@
 //! The layers of a store.
-ghost use Rattle.std.specs.Prelude.{◌≡◌, ◌++◌, flat_map, OnErr, OnOk};
-ghost use Rattle.std.specs.List.{AllByRecursion};
+ghost use Rattle.std.specs.Prelude.{◌≡◌, ◌++◌, OnErr, OnOk};
 ghost use Rattle.sf_format.specs.Canonical.{kind_byte as kind_byte_of, layer_bytes, layers_bytes};
 ghost use Rattle.sf_saving.specs.Fits.{EntryFits};
 ghost use Rattle.sf_streams.specs.Streams.{Puts, WritesFront};

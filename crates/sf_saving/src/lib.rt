@@ -2,6 +2,7 @@
 #![tactic(auto)]
 
 mod columns;
+mod demands;
 mod features;
 mod fields;
 mod layers;

@@ -2,34 +2,39 @@
 ghost use Rattle.std.specs.Prelude.{◌≡◌, ◌++◌, flat_map, OnErr, OnOk};
 ghost use Rattle.byteorder.specs.Endian.{big_bytes};
 ghost use Rattle.sf_known.specs.Patterns.{pattern_text};
-ghost use Rattle.sf_format.specs.Canonical.{ask_bytes, demand_byte as demand_byte_of, form_byte as form_byte_of, predicate_byte as predicate_byte_of, rule_bytes, rules_bytes, says_bytes};
+ghost use Rattle.sf_format.specs.Canonical.{ask_bytes, demand_byte as demand_byte_of, pair_bytes, pair_form_byte, predicate_byte as predicate_byte_of, rule_bytes, rules_bytes, says_bytes};
 ghost use Rattle.sf_format.specs.Stored.{OfLayers, OfValues};
 ghost use Rattle.sf_saving.specs.Parts.{letter_bytes};
 ghost use Rattle.sf_streams.specs.Streams.{Puts, WritesFront};
 
+use super::demands::put_demand;
 use super::fields::put_name;
-use sf_format::{Ask, Demand, Form, LayerRule, Rule, Says, ValueRule};
+use sf_format::{Ask, Demand, Form, LayerRule, PairAsk, Rule, Says, ValueRule};
 use sf_known::{Letter, Pattern, Predicate};
 use sf_streams::{Output, WriteFault};
 use std::io::Write;
 
-/// The byte of the form of a rule between layers.
-fn form_byte(form: Form) -> u8
-    ensures { result ≡ form_byte_of form }
+/// The byte of the form of a rule between layers, by what it asks.
+fn form_byte(ask: &PairAsk, form: Form) -> u8
+    ensures { result ≡ pair_form_byte ask.now form }
 {
-    match form {
-        Form::Never => 1,
-        Form::Each => 2,
+    match (ask, form) {
+        (PairAsk::Matrix(_), Form::Never) => 1,
+        (PairAsk::Matrix(_), Form::Each) => 2,
+        (PairAsk::Near(_), Form::Never) => 7,
+        (PairAsk::Near(_), Form::Each) => 8,
     }
 }
 
 /// The byte of what a rule demands of values.
-fn demand_byte(demand: Demand) -> u8
-    ensures { result ≡ demand_byte_of demand }
+fn demand_byte(demand: &Demand) -> u8
+    ensures { result ≡ demand_byte_of demand.now }
 {
     match demand {
         Demand::Unique => 3,
         Demand::Required => 4,
+        Demand::OneOf(_) => 5,
+        Demand::InRange(_) => 6,
     }
 }
 
@@ -108,6 +113,23 @@ fn put_ask<W: Write>(output: &mut Output, writer: &mut W, ask: &Ask) -> Result<(
     }
 }
 
+/// Puts what is asked of two features: of their matrix, or a distance in thousandths of a grid step.
+fn put_pair_ask<W: Write>(
+    output: &mut Output,
+    writer: &mut W,
+    ask: &PairAsk,
+) -> Result<(), WriteFault>
+    ensures ok { OnOk result (Puts (W.contents writer.old) (W.contents writer.new) output.old output.new
+        (pair_bytes ask.now)) }
+    ensures broken { OnErr result (WritesFront (W.contents writer.old) (W.contents writer.new)
+        (output.old ++ pair_bytes ask.now)) }
+{
+    match ask {
+        PairAsk::Matrix(ask) => put_ask(output, writer, ask),
+        PairAsk::Near(reach) => output.put_u64(writer, reach.thousandths()),
+    }
+}
+
 /// Puts a rule between layers: its form, its layers and what is asked of them.
 fn put_between<W: Write>(
     output: &mut Output,
@@ -119,13 +141,13 @@ fn put_between<W: Write>(
     ensures broken { OnErr result (WritesFront (W.contents writer.old) (W.contents writer.new)
         (output.old ++ says_bytes (OfLayers rule.now))) }
 {
-    output.put_u8(writer, form_byte(rule.form))?;
+    output.put_u8(writer, form_byte(&rule.ask, rule.form))?;
     put_name(output, writer, rule.first.as_str())?;
-    put_ask(output, writer, &rule.ask)?;
+    put_pair_ask(output, writer, &rule.ask)?;
     put_name(output, writer, rule.second.as_str())
 }
 
-/// Puts a rule on values: what it demands, its layer and its column.
+/// Puts a rule on values: its form, its layer, its column and the values that it names.
 fn put_on_values<W: Write>(
     output: &mut Output,
     writer: &mut W,
@@ -136,9 +158,10 @@ fn put_on_values<W: Write>(
     ensures broken { OnErr result (WritesFront (W.contents writer.old) (W.contents writer.new)
         (output.old ++ says_bytes (OfValues rule.now))) }
 {
-    output.put_u8(writer, demand_byte(rule.demand))?;
+    output.put_u8(writer, demand_byte(&rule.demand))?;
     put_name(output, writer, rule.layer.as_str())?;
-    put_name(output, writer, rule.column.as_str())
+    put_name(output, writer, rule.column.as_str())?;
+    put_demand(output, writer, &rule.demand)
 }
 
 /// Puts what a rule says, behind the byte of its form.

@@ -1,8 +1,7 @@
 //! The values of a feature.
 ghost use Rattle.std.specs.Prelude.{◌≡◌, ◌++◌, flat_map, option_copied, OnErr, OnOk};
-ghost use Rattle.std.specs.List.{AllByRecursion};
-ghost use Rattle.sf_format.specs.Canonical.{bool_byte as bool_byte_of, date_bytes, decimal_bytes, int_bytes, is_decimal_column as is_decimal_column_of, moment_bytes, value_bytes};
-ghost use Rattle.sf_saving.specs.Fits.{ValueFits};
+ghost use Rattle.sf_features.specs.Columns.{numbered};
+ghost use Rattle.sf_format.specs.Canonical.{bool_byte as bool_byte_of, date_bytes, decimal_bytes, int_bytes, is_decimal_column as is_decimal_column_of, moment_bytes, typed_bytes, value_bytes};
 ghost use Rattle.sf_streams.specs.Streams.{Puts, WritesFront};
 
 use super::fields::put_text;
@@ -94,6 +93,42 @@ fn put_moment<W: Write>(
     output.put_u32(writer, moment.millisecond)
 }
 
+/// Puts a value, as in a column of decimals or as in another one.
+pub(crate) fn put_typed<W: Write>(
+    output: &mut Output,
+    writer: &mut W,
+    value: &AttrValue,
+    in_decimals: bool,
+) -> Result<(), WriteFault>
+    ensures ok { OnOk result (Puts (W.contents writer.old) (W.contents writer.new) output.old output.new
+        (typed_bytes in_decimals value.now)) }
+    ensures broken { OnErr result (WritesFront (W.contents writer.old) (W.contents writer.new)
+        (output.old ++ typed_bytes in_decimals value.now)) }
+{
+    match value {
+        AttrValue::Int(number) => put_int(output, writer, *number, in_decimals),
+        AttrValue::Text(text) => put_text(output, writer, text.as_str()),
+        AttrValue::Decimal(number) => put_number(output, writer, number.parts()),
+        AttrValue::Bool(is) => output.put_u8(writer, bool_byte(*is)),
+        AttrValue::Date(date) => put_date(output, writer, date.parts()),
+        AttrValue::DateTime(moment) => put_moment(output, writer, moment.parts()),
+    }
+}
+
+/// Whether a value of a feature of a layer is a whole number in a column of decimals.
+fn is_whole_decimal(layer: &Layer, entry: &(u16, AttrValue)) -> bool
+    ensures { typed_bytes result entry.now.1 ≡ typed_bytes (is_decimal_column_of (numbered layer.now.columns entry.now.0)) entry.now.1 }
+{
+    match &entry.1 {
+        AttrValue::Int(_) => is_decimal_column(layer.column_numbered(entry.0)),
+        AttrValue::Text(_) => false,
+        AttrValue::Decimal(_) => false,
+        AttrValue::Bool(_) => false,
+        AttrValue::Date(_) => false,
+        AttrValue::DateTime(_) => false,
+    }
+}
+
 /// Puts a value of a feature of a layer, behind the number of its column.
 fn put_value<W: Write>(
     output: &mut Output,
@@ -101,24 +136,14 @@ fn put_value<W: Write>(
     layer: &Layer,
     entry: &(u16, AttrValue),
 ) -> Result<(), WriteFault>
-    requires { ValueFits entry.now.1 }
     ensures ok { OnOk result (Puts (W.contents writer.old) (W.contents writer.new) output.old output.new
         (value_bytes layer.now.columns entry.now)) }
     ensures broken { OnErr result (WritesFront (W.contents writer.old) (W.contents writer.new)
         (output.old ++ value_bytes layer.now.columns entry.now)) }
 {
+    let in_decimals = is_whole_decimal(layer, entry);
     output.put_u16(writer, entry.0)?;
-    match &entry.1 {
-        AttrValue::Int(number) => {
-            let in_decimals = is_decimal_column(layer.column_numbered(entry.0));
-            put_int(output, writer, *number, in_decimals)
-        }
-        AttrValue::Text(text) => put_text(output, writer, text.as_str()),
-        AttrValue::Decimal(number) => put_number(output, writer, number.parts()),
-        AttrValue::Bool(is) => output.put_u8(writer, bool_byte(*is)),
-        AttrValue::Date(date) => put_date(output, writer, date.parts()),
-        AttrValue::DateTime(moment) => put_moment(output, writer, moment.parts()),
-    }
+    put_typed(output, writer, &entry.1, in_decimals)
 }
 
 /// Puts the values of a feature of a layer, by rising column number.
@@ -128,7 +153,6 @@ pub(crate) fn put_values<W: Write>(
     layer: &Layer,
     values: &[(u16, AttrValue)],
 ) -> Result<(), WriteFault>
-    requires { AllByRecursion (λ entry. ValueFits entry.1) values.now }
     ensures ok { OnOk result (Puts (W.contents writer.old) (W.contents writer.new) output.old output.new
         (flat_map (value_bytes layer.now.columns) values.now)) }
     ensures broken { OnErr result (WritesFront (W.contents writer.old) (W.contents writer.new)

@@ -104,6 +104,17 @@ impl Output {
         self.put(writer, &bytes)
     }
 
+    /// Puts a number of eight bytes, the most significant first.
+    pub fn put_u64<W: Write>(&mut self, writer: &mut W, n: u64) -> Result<(), WriteFault>
+        ensures ok { OnOk result (Puts (W.contents writer.old) (W.contents writer.new) self.old self.new (big_bytes 8 n)) }
+        ensures broken { OnErr result (WritesFront (W.contents writer.old) (W.contents writer.new) (self.old ++ big_bytes 8 n)) }
+        ensures empty { OnErr result (self.new ≡ []) }
+    {
+        let mut bytes = [0; 8];
+        BigEndian::write_u64(&mut bytes, n);
+        self.put(writer, &bytes)
+    }
+
     /// Puts a number of eight bytes in two's complement, the most significant byte first.
     pub fn put_i64<W: Write>(&mut self, writer: &mut W, n: i64) -> Result<(), WriteFault>
         ensures ok { OnOk result (Puts (W.contents writer.old) (W.contents writer.new) self.old self.new

@@ -14,7 +14,8 @@ from sfstore.exchange.placing import room_beside
 from sfstore.exchange.ruling import Breaks, breaks_of, converse
 from sfstore.geometry import read_wkb, write_wkt
 from sfstore.language import GROUP_MAX
-from sfstore.results import RULE_BROKEN, AnyRule, JournalError, ProgramEnded, Refused, Rule, Value
+from sfstore.results import RULE_BROKEN, JournalError, ProgramEnded, Refused, Value
+from sfstore.rules import AnyRule, Rule
 from sfstore.store import Editor, Store
 from sfstore.storefile import FileFeature, FileLayer
 

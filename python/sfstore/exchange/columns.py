@@ -174,6 +174,7 @@ def surveyed(layer: FileLayer, origins: dict[int, ColumnOrigin]) -> Survey:
 def values_of(feature: FileFeature) -> dict[int, Value]:
     """The values of a feature as whole numbers and texts, by the numbers of their columns.
 
+    >>> from datetime import date
     >>> values_of(FileFeature(1, b"", {1: True, 2: Decimal("812.50"), 3: date(2024, 2, 29), 4: "it's"}))
     {1: 1, 2: '812.5', 3: '2024-02-29', 4: "it's"}
     """

@@ -50,13 +50,14 @@ def _compare(path: str, name: str, parts: Sequence[Part], found: Sidecar, metada
     if metadata and data.GetMetadataItem(wayback.ITEM) != metadata:
         raise ogr.ExchangeError("it has other metadata")
     for at, part in enumerate(parts):
-        _LayerCheck(data.GetLayer(at), name, part, found).check()
+        _LayerCheck(data, data.GetLayer(at), name, part, found).check()
 
 
 class _LayerCheck:
     """Compares one layer."""
 
-    def __init__(self, layer: Any, name: str, part: Part, found: Sidecar) -> None:
+    def __init__(self, data: Any, layer: Any, name: str, part: Part, found: Sidecar) -> None:
+        self._data = data
         self._layer = layer
         self._format = name
         self._part = part
@@ -132,7 +133,7 @@ class _LayerCheck:
                     f"the column {ogr.printable(field.GetName())} has the type {field.GetTypeName()} "
                     f"in place of {self._part.sorts[number].type}"
                 )
-            if demands_of(field) != self._part.demands.get(number, frozenset()):
+            if demands_of(field, self._data) != self._part.demands.get(number, frozenset()):
                 raise self._other(f"the column {ogr.printable(field.GetName())} has other constraints")
 
     def _is_type(self, sort: Sort, there: str, number: int) -> bool:

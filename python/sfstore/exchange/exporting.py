@@ -7,7 +7,6 @@ has a place for it. What it can't keep is said before anything is written.
 from __future__ import annotations
 
 import argparse
-import contextlib
 import hashlib
 import os
 import subprocess  # nosec B404: the store's own program is started, without a shell.
@@ -17,19 +16,21 @@ from dataclasses import dataclass
 
 from sfstore import files, journal, sidecar
 from sfstore.commandline import add_version, reason_of
-from sfstore.exchange import ogr, outcome, rulesfile, wayback
-from sfstore.exchange.asking import tables_of
-from sfstore.exchange.constraints import rules_said
-from sfstore.exchange.formats import FORMATS, Part, format_of, parts_of, rules_kept
+from sfstore.exchange import ogr, outcome, rulesfile
+from sfstore.exchange.constraints import Demanded, demanded_by, rules_said, writable
+from sfstore.exchange.formats import FORMATS, RULES_MAX, Part, format_of, parts_of, rules_kept
 from sfstore.exchange.geojson import crs_member
 from sfstore.exchange.grid import Grid
 from sfstore.exchange.placing import Place, placed
 from sfstore.exchange.postgis import write_database
-from sfstore.exchange.views import check_end
+from sfstore.exchange.replacing import check_none_lost
+from sfstore.exchange.ruling import rule_shown
+from sfstore.exchange.stamps import changed, stamps_of
 from sfstore.exchange.writing import write_data
 from sfstore.geometry import read_wkb
+from sfstore.mapunits import MapUnits
 from sfstore.program import ProgramMissing
-from sfstore.results import AnyRule
+from sfstore.rules import AnyRule, with_distance
 from sfstore.sidecar import Addition, LayerOrigin, Sidecar
 from sfstore.storefile import FileLayer, fault_words
 from sfstore.storefile import read_with_rules as read_store
@@ -92,7 +93,7 @@ def give_back(wishes: Wishes, say: Say) -> None:
         say(line)
     kept = rules_kept(rules, parts, wanted)
     if wishes.constrains:
-        parts = [_constrained(part, rules) for part in parts]
+        parts = [_constrained(part, rules, say) for part in parts]
     losses += wanted.losses(parts) + _blurred(parts, Grid(*found.grid))
     if wishes.format == "GeoJSON" and crs_member(found.crs) is None:
         losses.append("the reference system, which has no code: programs take degrees" if found.crs else NO_CRS)
@@ -100,7 +101,9 @@ def give_back(wishes: Wishes, say: Say) -> None:
     if code is not None:
         losses.append(f"that the reference system has no code: by its name it is {':'.join(code)} there")
     if wishes.rules is None:
-        losses += [f"the rule {rule.line}" for rule in rules if rule not in kept]
+        losses += [f"the rule {ogr.printable(rule_shown(rule, Grid(*found.grid)))}" for rule in rules if rule not in kept]
+    for rule in rules[RULES_MAX:] if wishes.rules is not None else ():
+        say(f"a file of rules has {RULES_MAX} at most, and is without the rule {ogr.printable(rule_shown(rule, Grid(*found.grid)))}")
     for loss in losses:
         say(f"{wishes.format} does not keep {loss}")
     for line in _left_out(wishes, parts, found):
@@ -109,13 +112,26 @@ def give_back(wishes: Wishes, say: Say) -> None:
     if wishes.grid is not None:
         _keep_grid(wishes, found)
     if wishes.rules is not None:
-        _write_rules(wishes, wishes.rules, rules, say)
+        _write_rules(wishes, wishes.rules, [with_distance(rule, MapUnits(*found.grid).length) for rule in rules], say)
 
 
-def _constrained(part: Part, rules: list[AnyRule]) -> Part:
-    """A layer whose columns demand what rules do."""
+def _constrained(part: Part, rules: list[AnyRule], say: Callable[[str], object]) -> Part:
+    """A layer whose columns demand what rules do, as far as constraints say it."""
     said = rules_said(part.layer.name, rules)
-    return part._replace(demands={column.number: said[column.name] for column in part.layer.columns if column.name in said})
+    demands: dict[int, frozenset[Demanded]] = {}
+    for column in part.layer.columns:
+        found: dict[str, Demanded] = {}
+        for rule in said.get(column.name, []):
+            demanded = demanded_by(rule)
+            # A column has one list or one range.
+            place = "domain" if demanded.demand in ("one-of", "range") else demanded.demand
+            if writable(demanded, part.sorts[column.number]) and found.get(place, demanded) == demanded:
+                found[place] = demanded
+            else:
+                say(f"no constraint says the rule {ogr.printable(rule.line)}")
+        if found:
+            demands[column.number] = frozenset(found.values())
+    return part._replace(demands=demands)
 
 
 def _left_out(wishes: Wishes, parts: list[Part], found: Sidecar) -> list[str]:
@@ -163,9 +179,9 @@ def _blurred(parts: list[Part], grid: Grid) -> list[str]:
 
 
 def _write_rules(wishes: Wishes, path: str, rules: list[AnyRule], say: Say) -> None:
-    """Writes all rules to a file beside the map."""
+    """Writes rules to a file beside the map, as many as an import takes."""
     try:
-        rulesfile.write(path, rules, wishes.overwrite, _mode(wishes), say)
+        rulesfile.write(path, rules[:RULES_MAX], wishes.overwrite, _mode(wishes), say)
     except (ogr.ExchangeError, OSError, KeyboardInterrupt) as error:
         why = "interrupted" if isinstance(error, KeyboardInterrupt) else reason_of(error)
         raise ogr.ExchangeError(f"the map is written, but not its rules: {why}") from None
@@ -204,11 +220,14 @@ def _write_file(wishes: Wishes, parts: list[Part], found: Sidecar, rules: list[A
         names = _names(name, wishes.format)[1:]
     place = Place(folder, names, None, wishes.overwrite, _mode(wishes))
     _check_strangers(place, wishes.format)
+    before = stamps_of(place.path(name))
     if wishes.format == "GPKG" and wishes.overwrite:
-        _check_tables(place.path(name), parts)
+        check_none_lost(place.path(name), parts, say)
     with placed(place, say) as new:
         write_data(os.path.join(new, place.leading), wishes.format, parts, found, rules)
         _check_strangers(place, wishes.format)
+        if wishes.overwrite and changed(before):
+            raise ogr.ExchangeError(f"{place.path(name)} was written by another program meanwhile: try again")
 
 
 def _names(target: str, name: str) -> list[str]:
@@ -219,43 +238,31 @@ def _names(target: str, name: str) -> list[str]:
 
 def _check_strangers(place: Place, name: str) -> None:
     """`ogr.ExchangeError` where a file stands beside that would be read with the new one."""
-    stem = os.path.splitext(place.leading)[0]
-    strange = {
-        (stem if tail.startswith(".") else place.leading) + tail
-        for tail in FORMATS[name].strangers
-    }
-    if len(place.names) > 1:
-        strange.update(place.names)
-    tails = {path[len(stem) :].casefold() for path in strange}
     for found in sorted(os.listdir(place.folder)):
-        if found.startswith(stem) and found[len(stem) :].casefold() in tails:
-            if found not in place.names:
-                raise ogr.ExchangeError(
-                    f"{place.path(found)} would be read with the new {place.leading}, and is of "
-                    "another one: take it away, or name another file"
-                )
+        if found not in place.names and _is_read_with(found, place.leading, name):
+            raise ogr.ExchangeError(
+                f"{place.path(found)} would be read with the new {place.leading}, and is of "
+                "another one: take it away, or name another file"
+            )
 
 
-def _check_tables(path: str, parts: list[Part]) -> None:
-    """`ogr.ExchangeError` where a GeoPackage has tables that would go with it: none of the new one's, nor of an export."""
-    module, _, _ = ogr.gdal()
-    check_end(path)
-    try:
-        # One that has pictures alone is no map of layers.
-        old = module.OpenEx(path, module.OF_VECTOR | module.OF_RASTER, allowed_drivers=["GPKG"])
-        names = tables_of(old)
-    except RuntimeError:
-        # It is none, or not there.
-        return
-    ours = {part.name.casefold() for part in parts}
-    with contextlib.suppress(ValueError):
-        ours.update(map(str.casefold, wayback.read(old.GetMetadataItem(wayback.ITEM) or "{}").layers))
-    lost = [name for name in names if name.casefold() not in ours]
-    if lost:
-        raise ogr.ExchangeError(
-            f"{path} has tables that the store has not, and they would be lost: {ogr.printable(', '.join(lost))}. "
-            "Name another file, or take that one away"
-        )
+def _is_read_with(found: str, leading: str, name: str) -> bool:
+    """Whether a file is read with the one that leads a map of a format, by its name."""
+    wanted, stem = FORMATS[name], os.path.splitext(leading)[0]
+    strange = {(stem if tail.startswith(".") else leading) + tail for tail in wanted.strangers}
+    if len(wanted.endings) > 1:
+        strange.update(stem + ending for ending in wanted.endings)
+    tails = {path[len(stem) :].casefold() for path in strange}
+    return found.startswith(stem) and found[len(stem) :].casefold() in tails
+
+
+def _goes_with(path: str, target: str, name: str) -> bool:
+    """Whether a path is in the folder of a map, or that of a file which is read with it."""
+    if name == "PostgreSQL":
+        return False
+    (folder, found), (map_folder, leading) = os.path.split(os.path.realpath(path)), os.path.split(os.path.realpath(target))
+    in_folder = os.path.commonpath([folder, os.path.realpath(target)]) == os.path.realpath(target)
+    return in_folder or (folder == map_folder and _is_read_with(found, leading, name))
 
 
 def _write_folder(wishes: Wishes, parts: list[Part], found: Sidecar, say: Say) -> None:
@@ -343,7 +350,7 @@ def _parser() -> argparse.ArgumentParser:
     parser.add_argument("--crs", help="its reference system, such as EPSG:25832")
     parser.add_argument("--same-map", action="store_true", help="the side-car is the store's for certain")
     parser.add_argument("--rules", metavar="RULES", help="write the rules to this file, for --rules of sfstore-import")
-    parser.add_argument("--constraints", action="store_true", help="of a .gpkg: UNIQUE and NOT NULL for rules on values")
+    parser.add_argument("--constraints", action="store_true", help="of a .gpkg: columns demand what rules on values do")
     parser.add_argument("--overwrite", action="store_true", help="replace files of the names that are written")
     parser.add_argument("--program", default="sfstore", help="the program sfstore")
     add_version(parser)
@@ -368,8 +375,8 @@ def main(words: list[str] | None = None) -> int:
     written = {os.path.realpath(path) for path in _names(asked.target, name)}
     if own & written:
         parser.error("the target is the store's own file")
-    if asked.rules and os.path.realpath(asked.rules) in own | written:
-        parser.error("store, map and rules are different files")
+    if asked.rules and (os.path.realpath(asked.rules) in own | written or _goes_with(asked.rules, asked.target, name)):
+        parser.error("store, map and rules are different files, and no rules stand in the folder of a map or are read with it")
     try:
         grid = Grid(*asked.grid) if asked.grid else None
     except ValueError as error:

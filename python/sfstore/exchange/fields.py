@@ -15,17 +15,18 @@ from decimal import Decimal
 from typing import Any, NamedTuple
 
 from sfstore.exchange import flatgeobuf, ogr
-from sfstore.exchange.asking import asked, quoted, table_of, tells_apart
+from sfstore.exchange.asking import asked, quoted, tells_apart
 from sfstore.exchange.columns import DATE, DATE_TIME, INTEGER, INTEGER_64, REAL, STRING
-from sfstore.exchange.constraints import demands_of
+from sfstore.exchange.constraints import Demanded, demands_of, left_aside
 from sfstore.exchange.jsontext import text_of
 from sfstore.exchange.layers import Fault, Feature, Left, SourceColumns
 from sfstore.exchange.moments import day_of, moment_of, text_of_day, text_of_moment, text_of_time
 from sfstore.exchange.names import Names, kept_name
 from sfstore.exchange.shapefiles import foreign_columns, odd_values
 from sfstore.exchange.stored import MAKERS, Made, whole_of
+from sfstore.exchange.tables import columns_of, confused, table_of
 from sfstore.language import TEXT_MAX
-from sfstore.results import Demand, Value
+from sfstore.results import Value
 from sfstore.sidecar import ColumnOrigin
 from sfstore.storefile import BOOL, DATETIME, DECIMAL, INT, TEXT, FileColumn, FileFeature
 from sfstore.storefile import DATE as FILE_DATE
@@ -62,6 +63,11 @@ _FITTING = {
     "AND strftime('%Y-%m-%dT%H:%M:%S', {0}, '+0 days') IS substr({0}, 1, 19)",
 }
 
+# Without a type that is its own a column has numbers too, of which OGR makes their texts.
+_FITTING_OF_SQLITE = {**_FITTING, STRING: "typeof({0}) <> 'blob' AND instr({0}, char(0)) = 0"}
+# What keeps values in SQLite.
+_OF_SQLITE = {"GPKG": _FITTING, "SQLite": _FITTING_OF_SQLITE}
+
 # The types of PostgreSQL that OGR reads as whole numbers and that are some. It takes an interval for one.
 _WHOLE_TYPES = {"smallint", "integer", "bigint", "boolean", "numeric", "oid"}
 # A number of PostgreSQL that is other than its double, in the shortest text of it.
@@ -74,9 +80,9 @@ _ODD_TIME = "({0}::text LIKE '%.____%' OR {0}::text LIKE '24:%')"
 # Days of which OGR drops those before the year 1.
 _ODD_DAY = "(NOT isfinite({0}) OR {0} NOT BETWEEN '0001-01-01' AND '9999-12-31')"
 _ODD_MOMENT = "(NOT isfinite({0}) OR {0} < '0001-01-02' OR {0} >= '9999-12-31' OR date_trunc('milliseconds', {0}) <> {0})"
-# A list with a place that has nothing, or with lists in it, of which OGR makes other numbers and one list.
-_ODD_LIST = "CASE WHEN array_ndims({0}) > 1 THEN true ELSE array_position({0}, NULL) IS NOT NULL END"
-_NO_JSON_NUMBER = " OR 'NaN' = ANY({0}) OR 'Infinity' = ANY({0}) OR '-Infinity' = ANY({0})"
+# OGR takes a list apart by its text, and reads it as it is where nothing in that is quoted, no list stands in it, and
+# its places begin with 1: else it drops signs and members, or makes others. No member may be none of JSON.
+_ODD_LIST = """({0}::text !~ '^[{{][^"{{}}]+[}}]$' OR {0}::text ~ '[{{,](NULL|NaN|-?Infinity)[,}}]')"""
 
 
 def _dated(value: str, form: str) -> str:
@@ -96,8 +102,6 @@ _ODD_OF_POSTGRESQL = {
     "time with time zone": (_ODD_TIME, "{0}::text"),
     # Of these OGR makes doubles.
     "numeric[]": ("{0} IS NOT NULL", "to_json({0})::text"),
-    "real[]": (_ODD_LIST + _NO_JSON_NUMBER, "to_json({0})::text"),
-    "double precision[]": (_ODD_LIST + _NO_JSON_NUMBER, "to_json({0})::text"),
 }
 _OF_LISTS = (_ODD_LIST, "to_json({0})::text")
 
@@ -149,6 +153,7 @@ class Fields(SourceColumns):
         self._as_text = as_text
         self._wanted = wanted or {}
         self._driver: str = source.GetDriver().ShortName
+        self._database_types = columns_of(source, layer) if self._driver == "PostgreSQL" else {}
         self._broken: set[int] = set()
         self._changed: Counter[tuple[str, str]] = Counter()
         self._fields: list[_Field] = []
@@ -217,10 +222,10 @@ class Fields(SourceColumns):
         ]
         return columns, features, [self._origins[field.number] for field in self._fields]
 
-    def demands(self) -> dict[str, frozenset[Demand]]:
+    def demands(self) -> dict[str, frozenset[Demanded]]:
         """What the source demands of the columns that are taken, by their names; of those of which it demands something."""
         definition = self._layer.GetLayerDefn()
-        found = {field.name: demands_of(definition.GetFieldDefn(field.place)) for field in self._fields}
+        found = {field.name: demands_of(definition.GetFieldDefn(field.place), self._source) for field in self._fields}
         return {name: demands for name, demands in found.items() if demands}
 
     def _final_type(self, field: _Field) -> int:
@@ -264,12 +269,12 @@ class Fields(SourceColumns):
         self._tell_domains()
 
     def _tell_domains(self) -> None:
-        """Reports what columns say of the meaning of their values, which a store has no place for."""
+        """Reports what columns say of their values that a store has no place for."""
         definition = self._layer.GetLayerDefn()
         fields = [definition.GetFieldDefn(field.place) for field in self._fields]
-        names = [f"{field.GetName()} ({known})" for field in fields if (known := field.GetDomainName())]
+        names = [f"{field.GetName()} ({known})" for field in fields if (known := left_aside(field, self._source))]
         if names:
-            self.left.append(Left("domains of columns, which say what their values mean, are left out", names))
+            self.left.append(Left("domains of columns, which say what their values mean or what no rule says, are left out", names, False))
 
     def _type(self, name: str, type_name: str, subtype: str) -> int | None:
         """The type that a column has in the store, or none where the store has none for it."""
@@ -294,21 +299,19 @@ class Fields(SourceColumns):
 
     def _confused(self) -> set[str]:
         """The columns of a database whose names differ in case alone: OGR gives one the values of the other."""
-        if self._driver != "PostgreSQL":
-            return set()
         definition = self._layer.GetLayerDefn()
-        names = [definition.GetFieldDefn(place).GetName() for place in range(definition.GetFieldCount())]
-        counts = Counter(name.casefold() for name in names)
-        confused = [name for name in names if counts[name.casefold()] > 1]
-        if confused:
+        # Those of geometries are among the database's, and not among these.
+        fields = {definition.GetFieldDefn(place).GetName() for place in range(definition.GetFieldCount())}
+        names = [name for name in confused(self._database_types) if name in fields]
+        if names:
             reason = "columns whose names differ in case alone, which OGR does not tell apart, are left out"
-            self.left.append(Left(reason, confused))
-        return set(confused)
+            self.left.append(Left(reason, names))
+        return set(names)
 
     def find_odd(self) -> None:
         """Asks the source itself for the values that OGR would change."""
-        if self._driver == "GPKG":
-            self._find_odd_of_geopackage()
+        if self._driver in _OF_SQLITE:
+            self._find_odd_of_sqlite(_OF_SQLITE[self._driver])
         elif self._driver == "PostgreSQL":
             self._find_odd_of_postgresql()
         elif self._driver == "ESRI Shapefile":
@@ -320,12 +323,12 @@ class Fields(SourceColumns):
         """Lets go of what `find_odd` has found."""
         self._odd.clear()
 
-    def _find_odd_of_geopackage(self) -> None:
+    def _find_odd_of_sqlite(self, fitting: Mapping[str, str]) -> None:
         for field in list(self._fields):
-            if field.source_type not in _FITTING:
+            if field.source_type not in fitting:
                 continue
             name = quoted(field.source_name)
-            condition = f"{name} IS NOT NULL AND NOT ({_FITTING[field.source_type].format(name)})"
+            condition = f"{name} IS NOT NULL AND NOT ({fitting[field.source_type].format(name)})"
             shown = f"substr(quote({name}), 1, 60)"
             self._note_odd(field, condition, shown)
 
@@ -346,9 +349,9 @@ class Fields(SourceColumns):
                 self._odd[feature, place] = shown, value
 
     def _find_odd_of_postgresql(self) -> None:
-        types = self._postgresql_types()
         for field in list(self._fields):
-            known = _ODD_OF_POSTGRESQL.get(types.get(field.source_name, ""), _OF_LISTS if field.is_list else None)
+            type_name = self._database_types.get(field.source_name, "")
+            known = _ODD_OF_POSTGRESQL.get(type_name, _OF_LISTS if field.is_list else None)
             if known is not None:
                 condition, shown = known
                 if field.source_type == REAL:
@@ -383,7 +386,7 @@ class Fields(SourceColumns):
 
     def _odd_text(self, field: _Field, shown: str) -> str | None:
         """The text of a value that OGR would change, as SQL writes it; none where it is no value of the column's type."""
-        if field.source_type == REAL and self._driver == "GPKG" and _WHOLE.fullmatch(shown):
+        if field.source_type == REAL and self._driver in _OF_SQLITE and _WHOLE.fullmatch(shown):
             return shown
         text = _unquoted(shown)
         if text is None or field.source_type in (INTEGER, INTEGER_64):
@@ -403,15 +406,6 @@ class Fields(SourceColumns):
             return text if _TIME.fullmatch(text) else None
         return None
 
-    def _postgresql_types(self) -> dict[str, str]:
-        """The types of a table's columns in PostgreSQL's words."""
-        table = table_of(self._source, self._layer).replace("'", "''")
-        query = (
-            "SELECT attname::text AS place, format_type(atttypid, NULL)::text AS value FROM pg_attribute "
-            f"WHERE attrelid = to_regclass('{table}') AND attnum > 0 AND NOT attisdropped"
-        )
-        return dict(asked(self._source, self._layer, query))
-
     def _foreign_types(self) -> dict[int, str]:
         """The columns that OGR takes for whole numbers or texts and that are none, by their places, with their types."""
         if self._driver == "ESRI Shapefile":
@@ -420,7 +414,7 @@ class Fields(SourceColumns):
             return {}
         _, module, _ = ogr.gdal()
         definition = self._layer.GetLayerDefn()
-        types = self._postgresql_types()
+        types = self._database_types
         return {
             place: types[field.GetName()]
             for place, field in enumerate(map(definition.GetFieldDefn, range(definition.GetFieldCount())))

@@ -9,10 +9,11 @@ from types import MappingProxyType
 from typing import NamedTuple
 
 from sfstore.exchange.columns import DATE, DATE_TIME, REAL, STRING, Sort, Survey, origin_of, sort_of, surveyed
+from sfstore.exchange.constraints import Demanded
 from sfstore.exchange.names import FreeNames
 from sfstore.exchange.ogr import printable
 from sfstore.language import COLUMN_TYPES
-from sfstore.results import AnyRule, Demand
+from sfstore.rules import AnyRule
 from sfstore.sidecar import ColumnOrigin, LayerOrigin, Sidecar
 from sfstore.storefile import DATE as FILE_DATE
 from sfstore.storefile import BOOL, DATETIME, FileLayer
@@ -44,7 +45,7 @@ class Part(NamedTuple):
     """What the layer has."""
     sorts: dict[int, Sort]
     """The types of the columns by their numbers."""
-    demands: Mapping[int, frozenset[Demand]] = MappingProxyType({})
+    demands: Mapping[int, frozenset[Demanded]] = MappingProxyType({})
     """What is demanded of columns, by their numbers: none of those that are not here."""
 
     @property

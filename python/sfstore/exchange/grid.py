@@ -8,7 +8,7 @@ from dataclasses import dataclass
 from fractions import Fraction
 
 from sfstore.language import GRID_MAX, GRID_MIN
-from sfstore.mapunits import grid_decimal
+from sfstore.mapunits import MapUnits, grid_decimal
 
 __all__ = ["LEAST", "MOST", "NOISE_ULPS", "Grid", "OffGrid", "Outside", "Rounding"]
 
@@ -29,7 +29,7 @@ _STEPS_OF_NOISE = 1_000
 
 
 class OffGrid(ValueError):
-    """A coordinate is no step of the grid. The text names it."""
+    """A coordinate is no step of the grid. The text names it, and the two that it stands between."""
 
 
 class Outside(ValueError):
@@ -110,7 +110,7 @@ class Grid:
                 k = self._nearest(place, axis)
                 moved = abs((origin[axis] + k * step) / denominator - place)
                 if moved and not self._is_taken(moved, place, axis, rounding):
-                    raise OffGrid(f"{'xy'[axis]} {place!r} of point {index // 2}")
+                    raise OffGrid(f"{'xy'[axis]} {place!r} of point {index // 2}, between {self._beside(place, axis)}")
             if not LEAST <= k <= MOST:
                 raise Outside(f"{'xy'[axis]} {place!r} of point {index // 2}")
             found.append(k)
@@ -169,6 +169,12 @@ class Grid:
             Fraction(self._origin[0] + x * self._step, self._denominator),
             Fraction(self._origin[1] + y * self._step, self._denominator),
         )
+
+    def _beside(self, place: float, axis: int) -> str:
+        """The two coordinates of the grid that a double stands between."""
+        below = (Fraction(place) * self._denominator - self._origin[axis]) // self._step
+        units = MapUnits(*self.words)
+        return " and ".join(units.coordinate(axis, step) for step in (below, below + 1))
 
     def _nearest(self, place: float, axis: int) -> int:
         """The step that is nearest to a double, exactly; of two the greater."""

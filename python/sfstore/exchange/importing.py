@@ -12,8 +12,9 @@ import os
 import re
 import sys
 from collections import Counter
-from collections.abc import Iterable, Iterator
+from collections.abc import Callable, Iterable, Iterator
 from dataclasses import dataclass, replace
+from decimal import Decimal
 from fractions import Fraction
 from functools import partial
 from typing import NamedTuple
@@ -30,13 +31,16 @@ from sfstore.exchange.names import Names
 from sfstore.exchange.publishing import check_target, publish
 from sfstore.exchange.reading import LayerImport, Taking
 from sfstore.exchange.reports import FEATURE_FORMATS, Report, check_replaced
-from sfstore.exchange.sources import check_unchanged, open_source
+from sfstore.exchange.ruling import rule_shown
+from sfstore.exchange.sources import check_unchanged, of_one_moment, open_source
 from sfstore.exchange.stamps import stamps_of
 from sfstore.exchange.suggesting import suggestion
 from sfstore.exchange.telling import Brought, BroughtFeature, Telling
 from sfstore.language import COLUMN_TYPES, LAYERS_MAX
+from sfstore.mapunits import MapUnits, NoPlace
 from sfstore.refusals import words_of
-from sfstore.results import AnyRule, Column, Refused, ValueRule
+from sfstore.results import Column, Refused
+from sfstore.rules import AnyRule, ValueRule, with_distance
 from sfstore.sidecar import Addition, Crs, Sidecar
 from sfstore.store import Store
 from sfstore.storefile import FileLayer
@@ -159,19 +163,23 @@ def bring_in(wishes: Wishes) -> Result:
     """
     check_target(wishes.target, wishes.overwrite, wishes.given_way)
     rules = [] if wishes.rules is None else rulesfile.read(wishes.rules)
-    report = Report()
+    report = Report(_shown_source(wishes))
     with _heard(wishes, report):
         sources = _opened(wishes, report)
         left = _way_back(sources[0], report)
         grid = wishes.grid or left.grid
         if grid is None:
             raise ogr.ExchangeError("the grid is missing: say --grid OX OY STEP, or ask with --suggest")
-        crs, layers = _of_one_crs(_chosen_layers(sources, wishes.layers, left), report)
-        contents, readings = _read_layers(wishes, layers, grid, left, report)
+        with of_one_moment(sources):
+            chosen = _readable(_chosen_layers(sources, wishes.layers, left), wishes, report)
+            crs, layers = _of_one_crs(chosen, report)
+            contents, readings = _read_layers(wishes, layers, grid, left, report)
         if wishes.width is not None:
             contents = [clean_layer(*each, grid, wishes.width, report) for each in zip(contents, readings)]
     found = Sidecar(grid.words, crs, [reading.origin() for reading in readings])
-    all_rules = left.rules + rules
+    units, before = MapUnits(*grid.words), MapUnits(*(left.grid or grid).words)
+    # What an export leaves is in steps of its own grid, and what people write in the units of the map.
+    all_rules = _on_grid(left.rules, lambda steps: units.reach(before.length(steps)), wishes, report) + _on_grid(rules, units.reach, wishes, report)
     all_rules += _constraints(wishes, readings, all_rules, report)
     target, overwrite, given_way = wishes.target, wishes.overwrite, wishes.given_way
     rulings = publish(target, contents, found, wishes.program, overwrite, all_rules, sources, given_way)
@@ -181,6 +189,17 @@ def bring_in(wishes: Wishes) -> Result:
     }
     Telling(_shown_source(wishes), brought, grid, report).tell(rulings)
     return Result(report, crs)
+
+
+def _on_grid(rules: list[AnyRule], to_steps: Callable[[Decimal], Decimal], wishes: Wishes, report: Report) -> list[AnyRule]:
+    """Rules with their distances in steps of the grid. One whose distance is none of the grid is left out."""
+    found = []
+    for rule in rules:
+        try:
+            found.append(with_distance(rule, to_steps))
+        except NoPlace as error:
+            report.problem(_shown_source(wishes), None, "a rule is left out", f"{rule.line}: {error}")
+    return found
 
 
 def _constraints(wishes: Wishes, readings: list[LayerImport], said: list[AnyRule], report: Report) -> list[ValueRule]:
@@ -221,9 +240,14 @@ def _opened(wishes: Wishes, report: Report) -> list[Source]:
     if not any(source.layers or source.plain_tables for source in opened.sources):
         raise ogr.ExchangeError(f"{ogr.printable(_shown_source(wishes))} has no layers: a file may be cut off")
     for source in opened.sources:
+        report.sources.add(os.path.basename(source.path))
         # Whoever names layers has not asked for these.
         for table in source.plain_tables if not wishes.layers else ():
             report.problem(table, None, "a table without geometries", "its rows are left out")
+        if not source.is_looked_at:
+            report.note(os.path.basename(source.path), "its values are those that OGR reads, which may be others than the source's")
+        if source.besides:
+            report.note(os.path.basename(source.path), f"a store has no place for what it has besides: {'; '.join(source.besides)}")
     return opened.sources
 
 
@@ -279,11 +303,11 @@ def add_in(wishes: Wishes) -> Result:
     path = os.path.realpath(wishes.target)
     if not os.path.isfile(path):
         raise ogr.ExchangeError(f"{wishes.target} is no store that is there: leave out --add")
-    report = Report()
+    report = Report(_shown_source(wishes))
     with _heard(wishes, report):
         sources = _opened(wishes, report)
     # It is held from here on, so that its layers stay as they are.
-    store = Store(path, journal=True, program=wishes.program)
+    store = Store(path, journal=True, program=wishes.program, warn_far_off=False)
     try:
         return _added(wishes, store, path, sources, report)
     finally:
@@ -295,10 +319,11 @@ def _added(wishes: Wishes, store: Store, path: str, sources: list[Source], repor
     known = _known(path, wishes)
     grid = Grid(*known.grid)
     left = _way_back(sources[0], report)
-    crs, layers = _of_one_crs(_chosen_layers(sources, wishes.layers, left), report, known.crs)
     if left.rules:
         report.note(_shown_source(wishes), f"{len(left.rules)} rules of it are left aside")
-    with _heard(wishes, report):
+    with _heard(wishes, report), of_one_moment(sources):
+        chosen = _readable(_chosen_layers(sources, wishes.layers, left), wishes, report)
+        crs, layers = _of_one_crs(chosen, report, known.crs)
         contents, readings = _read_into(wishes, store, layers, known, left, report)
     check_unchanged(sources)
     # It is noted before: behind an addition that breaks off features may be there.
@@ -317,8 +342,8 @@ def _added(wishes: Wishes, store: Store, path: str, sources: list[Source], repor
         }
         telling = Telling(_shown_source(wishes), brought, grid, report)
         for rule, layer, breaks in added.broken:
-            telling.tell_broken(rule, layer, breaks, f"breaks the rule {rule.line}")
-        return Result(report, crs, fault=_fault(added.refused, added.broken))
+            telling.tell_broken(rule, layer, breaks, f"breaks the rule {rule_shown(rule, grid)}")
+        return Result(report, crs, fault=_fault(added.refused, added.broken, grid))
     for layer, identifiers in added.identifiers.items():
         report.note(names[layer], f"they are {identifiers[0]} to {identifiers[-1]} of {layer}")
     return Result(report, crs, _steps(wishes.target, added.steps))
@@ -398,9 +423,9 @@ def _numbered(content: FileLayer, identifiers: dict[str, list[int]]) -> dict[int
     return {number: BroughtFeature(feature.id, feature.geometry) for number, feature in zip(numbers, content.features)}
 
 
-def _fault(refused: Refused, broken: list[Broken]) -> str:
+def _fault(refused: Refused, broken: list[Broken], grid: Grid) -> str:
     """Why nothing was added, in words."""
-    why = "; ".join(dict.fromkeys(each.rule.line for each in broken))
+    why = "; ".join(dict.fromkeys(ogr.printable(rule_shown(each.rule, grid)) for each in broken))
     if refused.rule and not broken:
         # As a whole the map keeps it, or memory ran out for the search.
         why = f"{refused.rule}, by a step of the map that is not all of it, or by features that could not be listed"
@@ -429,6 +454,20 @@ def _shown_crs(crs: Crs | None) -> str:
         return str(crs or "none")
     name = re.search(r'"([^"]+)"', crs.wkt)
     return f"{crs} ({ogr.printable(name[1][:_NAME_SHOWN])})" if name else str(crs)
+
+
+def _readable(layers: list[_SourceLayer], wishes: Wishes, report: Report) -> list[_SourceLayer]:
+    """The layers of which nothing else would be read. Others are told.
+
+    `ogr.ExchangeError` where somebody has named such a one, or there are no others: no store is to give way to nothing.
+    """
+    faults = [(found, fault) for found in layers if (fault := found.layer.fault())]
+    if faults and (wishes.layers or len(faults) == len(layers)):
+        found, fault = faults[0]
+        raise ogr.ExchangeError(f"layer {ogr.printable(found.name)} can't be read: {fault}")
+    for found, fault in faults:
+        report.problem(found.name, None, "the layer is left out", fault)
+    return [found for found in layers if all(found is not other for other, _ in faults)]
 
 
 def _of_one_crs(
@@ -493,7 +532,7 @@ def parser() -> argparse.ArgumentParser:
     options.add_argument("--add", action="store_true", help="add to the store of FILE, as one step of its history")
     options.add_argument("--same-map", action="store_true", help="with --add: the side-car is the store's for certain")
     options.add_argument("--rules", metavar="RULES", help="add the rules of this file to the new store")
-    options.add_argument("--constraints", action="store_true", help="make rules of UNIQUE and NOT NULL of columns")
+    options.add_argument("--constraints", action="store_true", help="make rules of what columns demand")
     options.add_argument("--report", metavar="FILE", help="write all that did not fit as text")
     options.add_argument("--faulty", metavar="FILE", help="write what did not fit, .geojson or .gpkg")
     options.add_argument("--overwrite", action="store_true", help="replace files, reports too")
@@ -553,7 +592,13 @@ def _suggest(asked: argparse.Namespace) -> int:
     for name, reason in opened.left_out:
         print(f"{ogr.printable(name)} does not open: {reason}", file=sys.stderr)
     chosen = _chosen_layers(opened.sources, asked.layer, wayback.WayBack())
-    print(suggestion([found.layer for found in chosen], asked.drop_zm, asked.part_collections), end="")
+    with of_one_moment(opened.sources):
+        faults = {found.layer: found.layer.fault() for found in chosen}
+        for layer, fault in faults.items():
+            if fault:
+                print(f"{ogr.printable(layer.name)} is left out: {fault}", file=sys.stderr)
+        looked_at = [layer for layer, fault in faults.items() if not fault]
+        print(suggestion(looked_at, asked.drop_zm, asked.part_collections), end="")
     return 0
 
 

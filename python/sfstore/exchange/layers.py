@@ -7,11 +7,11 @@ from __future__ import annotations
 
 import contextlib
 from abc import ABC, abstractmethod
-from collections.abc import Iterator, Mapping, Sequence
+from collections.abc import Callable, Iterator, Mapping, Sequence
 from typing import Any, NamedTuple
 
+from sfstore.exchange.constraints import Demanded
 from sfstore.exchange.stamps import Stamps
-from sfstore.results import Demand
 from sfstore.sidecar import ColumnOrigin, Crs
 from sfstore.storefile import FileColumn, FileFeature
 
@@ -37,10 +37,12 @@ class Feature(NamedTuple):
 
 
 class Left(NamedTuple):
-    """Columns that are left out."""
+    """Columns that are left out, or something that is said of columns."""
 
     reason: str
     names: list[str]
+    has_values: bool = True
+    """Whether their values are left out."""
 
 
 class Fault(NamedTuple):
@@ -74,7 +76,7 @@ class SourceColumns(ABC):
     def forget_odd(self) -> None:
         """Lets go of what `find_odd` has found."""
 
-    def demands(self) -> dict[str, frozenset[Demand]]:
+    def demands(self) -> dict[str, frozenset[Demanded]]:
         """What the source demands of the columns, by their names; of those of which it demands something."""
         return {}
 
@@ -97,6 +99,10 @@ class Layer(ABC):
     geometry_column: str = ""
     has_geometries: bool = True
 
+    def fault(self) -> str:
+        """Why whoever reads it would be given something else, or nothing."""
+        return ""
+
     @abstractmethod
     def crs(self) -> Crs | None:
         """The reference system."""
@@ -104,11 +110,6 @@ class Layer(ABC):
     @abstractmethod
     def count(self) -> int:
         """How many features there are, or less than 0 where that is not known."""
-
-    @contextlib.contextmanager
-    def reading(self) -> Iterator[None]:
-        """In the body all that is read is of one moment. A file that changes meanwhile is found out afterwards."""
-        yield
 
     @abstractmethod
     def features(self) -> Iterator[Feature]:
@@ -142,5 +143,11 @@ class Source(NamedTuple):
     """What an export has left in a GeoPackage, or nothing."""
     plain_tables: Sequence[str] = ()
     """Tables without geometries that are no layers of it."""
+    besides: Sequence[str] = ()
+    """What it has beside features and their values, in words."""
     is_whole: bool = True
     """Whether ``files`` are all that it is read from. A file of any format may lead to others."""
+    is_looked_at: bool = True
+    """Whether values that its reader changes are found."""
+    of_one_moment: Callable[[], contextlib.AbstractContextManager[None]] = contextlib.nullcontext
+    """In its body all layers are read as of one moment. A file that changes meanwhile is found out afterwards."""

@@ -228,6 +228,22 @@ def driver(name: str) -> Any:
     return found
 
 
+def make_with_domains(path: str, name: str, domains: list[Any], statements: list[str]) -> None:
+    """Makes a file of a format that has these domains of fields, and nothing else. `RuntimeError` where it can't be made.
+
+    Behind them statements in SQL are carried out.
+    """
+    module, _, _ = gdal()
+    data = module.GetDriverByName(name).Create(path, 0, 0, 0, module.GDT_Unknown)
+    for domain in domains:
+        data.AddFieldDomain(domain)
+    for statement in statements:
+        data.ExecuteSQL(statement)
+    # It is written to its end where nobody has a name for it.
+    data.FlushCache()
+    del data
+
+
 def crs_of(layer: Any) -> Crs | None:
     """The reference system of a layer; none where it can't be read."""
     return read_crs(layer)[0]

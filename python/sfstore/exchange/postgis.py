@@ -21,6 +21,7 @@ from sfstore.exchange.formats import Part
 from sfstore.exchange.grid import Grid
 from sfstore.exchange.moments import day_of, moment_of
 from sfstore.exchange.placing import uninterrupted
+from sfstore.exchange.replacing import gone_words, keyed, several
 from sfstore.geometry import read_wkb, write_wkb
 from sfstore.sidecar import Crs, Sidecar
 from sfstore.storefile import FileFeature
@@ -31,8 +32,6 @@ __all__ = ["write_database"]
 _LOCK_SECONDS = 60
 # How many rows are sent, and read back, at a time.
 _BATCH = 1_000
-# How many features a refusal names.
-_SHOWN = 8
 _HAS_REFERENCE = 0x20000000
 _INT_32_MAX = 2**31 - 1
 
@@ -262,11 +261,7 @@ class _Export:
 
     def _table(self, part: Part, schema: str) -> _Table:
         """The place of a layer, where nothing is in the way."""
-        name = part.name
-        before, dot, behind = name.partition(".")
-        if dot and behind and self._is_schema(before):
-            # So OGR names the tables of other schemas.
-            schema, name = before, behind
+        schema, name = self._place(part.name, schema)
         oid = self._free(schema, name)
         if oid is None:
             return _Table(schema, name, None, {})
@@ -276,6 +271,39 @@ class _Export:
         _check_columns(part, table)
         self._check_left_out(part, table)
         return table
+
+    def _place(self, name: str, schema: str) -> tuple[str, str]:
+        """The schema and the table of a layer's name, which OGR has with a schema and a point where it is another one's.
+
+        `ogr.ExchangeError` where two tables have this name.
+        """
+        there = self.rows(
+            "SELECT n.nspname, c.relname FROM pg_catalog.pg_class c JOIN pg_catalog.pg_namespace n ON n.oid = c.relnamespace "
+            "WHERE c.relkind IN ('r', 'p', 'v', 'm', 'f') "
+            "AND (n.nspname = %s AND c.relname = %s OR n.nspname || '.' || c.relname = %s) ORDER BY 1, 2",
+            *(schema, name, name),
+        )
+        if len(there) > 1:
+            shown = " from ".join(self.quoted(*each).as_string(self.connection) for each in there)
+            raise ogr.ExchangeError(f"OGR does not tell the tables {ogr.printable(shown)}: rename one of them")
+        if there:
+            return str(there[0][0]), str(there[0][1])
+        before, dot, behind = name.partition(".")
+        if dot and behind and self._is_schema(before):
+            return before, behind
+        self._check_system(name)
+        return schema, name
+
+    def _check_system(self, name: str) -> None:
+        """`ogr.ExchangeError` where a new table would have the name of one of the system or of PostGIS."""
+        rows = self.rows(
+            "SELECT 1 FROM pg_catalog.pg_class c WHERE c.relname = %s AND (c.relnamespace = 'pg_catalog'::pg_catalog.regnamespace "
+            "OR EXISTS (SELECT FROM pg_catalog.pg_depend d WHERE d.classid = 'pg_catalog.pg_class'::pg_catalog.regclass "
+            "AND d.objid = c.oid AND d.deptype = 'e'))",
+            name,
+        )
+        if rows:
+            raise ogr.ExchangeError(f"OGR would not tell a table {ogr.printable(name)} from the one that the database has for itself: rename the layer")
 
     def _free(self, schema: str, name: str) -> int | None:
         """The table of a name, where it may be replaced; none where there is none."""
@@ -329,11 +357,12 @@ class _Export:
             return
         lost = [key for key, *_ in self._rows_of(table, origin.identifier_column, [], origin.left_out)]
         if lost:
-            raise _left_out(part, f"features that its import has left out: {_several(lost)}")
+            raise _left_out(part, f"features that its import has left out: {several(lost)}")
         self._check_additions(part, table)
         columns = [_Column(number, part.columns[number], sort) for number, sort in part.sorts.items()]
-        columns = [column for column in columns if column.name in table.columns]
-        known = dict(_keyed(part, origin.identifier_column))
+        # What the database computes is not lost.
+        columns = [column for column in columns if column.name in table.columns and not table.columns[column.name].is_computed]
+        known = dict(keyed(part, origin.identifier_column))
         rows = self._rows_of(table, origin.identifier_column, [column.name for column in columns], origin.without)
         for key, *texts in rows:
             values = known.get(key)
@@ -354,7 +383,7 @@ class _Export:
         }
         lost = [key for key, *_ in self._rows_of(table, part.origin.identifier_column, [], sorted(wanted))]
         if lost:
-            raise _left_out(part, f"features of which an addition has left out all or some values: {_several(lost)}")
+            raise _left_out(part, f"features of which an addition has left out all or some values: {several(lost)}")
 
     def _check_flat(self, part: Part, table: _Table) -> None:
         """`ogr.ExchangeError` where geometries of a table have Z or M."""
@@ -448,20 +477,6 @@ def _left_out(part: Part, what: str) -> ogr.ExchangeError:
     )
 
 
-def _several(names: Sequence[str]) -> str:
-    """The first ones of some names, and how many more there are."""
-    more = len(names) - _SHOWN
-    return ", ".join(names[:_SHOWN]) + (f" and {more:,} more" if more > 0 else "")
-
-
-def _keyed(part: Part, key: str) -> Iterator[tuple[str, dict[int, Any]]]:
-    """The values of the features by their keys in the source, which may stand in a column of theirs."""
-    numbers = [number for number, name in part.columns.items() if name == key]
-    for feature in part.layer.features:
-        values = dict(values_of(feature))
-        yield str(values.get(numbers[0]) if numbers else feature.id), values
-
-
 class _LayerExport:
     """Writes one layer to its table."""
 
@@ -472,6 +487,8 @@ class _LayerExport:
         self._srid = srid
         self._name = export.quoted(table.schema, table.name)
         self._columns = [_Column(number, part.columns[number], sort) for number, sort in part.sorts.items()]
+        self._computed = {name for name, column in table.columns.items() if column.is_computed}
+        self._other_values: dict[str, list[str]] = {}
         self._padded = {name for name, column in table.columns.items() if column.is_padded}
         self._unzoned = {name for name, column in table.columns.items() if column.is_unzoned}
 
@@ -482,7 +499,8 @@ class _LayerExport:
             self._make()
         else:
             self._empty()
-        names = [part.identifier_column, part.geometry_column, *(column.name for column in self._columns)]
+        own = [part.geometry_column, *(column.name for column in self._columns)]
+        names = [part.identifier_column, *(name for name in own if name not in self._computed)]
         export.copy(export.format("COPY {} ({}) FROM STDIN", self._name, export.several(names)), self._rows())
         if self._table.oid is None:
             export.run("CREATE INDEX ON {} USING GIST ({})", self._name, export.quoted(part.geometry_column))
@@ -521,23 +539,24 @@ class _LayerExport:
         keys = [name for name in (part.origin.identifier_column, part.identifier_column) if name in self._table.columns]
         if not keys:
             return
-        known = {key for key, _ in _keyed(part, keys[0])}
+        known = {key for key, _ in keyed(part, keys[0])}
         quoted = export.quoted(keys[0])
         with export.reading(export.format("SELECT {}::text FROM {} AS t ORDER BY t.{}", quoted, self._name, quoted)) as rows:
             gone = [str(key) for [key] in rows if key not in known]
         if gone:
-            count = f"{len(gone):,} rows" if len(gone) > 1 else "1 row"
-            shown = ogr.printable(_several(gone))
-            export.say(f"the table {ogr.printable(self._table.name)} has {count} that the store has not, and they are removed: {shown}")
+            export.say(f"the table {ogr.printable(self._table.name)} {gone_words(gone)}")
 
     def _rows(self) -> Iterator[bytes]:
         """The features in the text format of COPY, some at a time."""
         rows: list[str] = []
         features = self._part.layer.features
+        sent = [column for column in self._columns if column.name not in self._computed]
+        sends_geometry = self._part.geometry_column not in self._computed
         with ogr.progress(self._part.name, len(features)) as show:
             for feature in features:
-                fields, values = [str(feature.id), self._geometry(feature)], values_of(feature)
-                fields += [_field(values.get(column.number), column.sort) for column in self._columns]
+                fields, values = [str(feature.id)], values_of(feature)
+                fields += [self._geometry(feature)] if sends_geometry else []
+                fields += [_field(values.get(column.number), column.sort) for column in sent]
                 rows.append("\t".join(fields) + "\n")
                 if len(rows) == _BATCH:
                     yield "".join(rows).encode("utf-8")
@@ -590,12 +609,12 @@ class _LayerExport:
         return str(named[0][0]) if len(named) == 1 else None
 
     def read_back(self) -> None:
-        """`ogr.ExchangeError` where the table has anything else than the layer."""
+        """`ogr.ExchangeError` where the table has anything else than the layer, but for values that the database computes."""
         export, part = self._export, self._part
         identifier = export.quoted(part.identifier_column)
-        geometry = export.format(
-            "{}({}, 'NDR')", export.of_postgis("st_ashexewkb"), export.quoted(part.geometry_column)
-        )
+        # A column may be one of geographies.
+        shape = export.format("{}::{}", export.quoted(part.geometry_column), export.of_postgis("geometry"))
+        geometry = export.format("{}({}, 'NDR')", export.of_postgis("st_ashexewkb"), shape)
         shown = [export.format("{}::text", export.quoted(column.name)) for column in self._columns]
         asked = export.plain(", ").join([identifier, geometry, *shown])
         statement = export.format("SELECT {} FROM {} ORDER BY {}", asked, self._name, identifier)
@@ -605,6 +624,9 @@ class _LayerExport:
                 self._compare(feature, next(read, None))
             if next(read, None) is not None:
                 raise self._other("has more rows than were written")
+        table = ogr.printable(self._table.name)
+        for name, keys in self._other_values.items():
+            export.say(f"the database computes {ogr.printable(name)} of {table}, and has other values than the store in these rows: {several(keys)}")
 
     def _compare(self, feature: FileFeature, row: Any) -> None:
         if row is None or row[0] != feature.id:
@@ -617,12 +639,16 @@ class _LayerExport:
             if isinstance(value, str) and column.name in self._padded:
                 value = value.rstrip(" ")
             in_utc = text and column.name in self._unzoned and column.sort.is_zoned
-            if not _is_same(value, f"{text}Z" if in_utc else text, column.sort):
+            if _is_same(value, f"{text}Z" if in_utc else text, column.sort):
+                continue
+            if column.name not in self._computed:
                 there = "no value" if text is None else ogr.printable(repr(text[:60]))
                 raise self._other(
                     f"has {there} for {ogr.printable(repr(value)[:60])} in column {ogr.printable(column.name)} "
                     f"of feature {feature.id}"
                 )
+            if value is not None:
+                self._other_values.setdefault(column.name, []).append(str(feature.id))
 
     def _other(self, what: str) -> ogr.ExchangeError:
         return ogr.ExchangeError(
@@ -657,7 +683,7 @@ def _is_same(value: int | str | None, text: str | None, sort: Sort) -> bool:
     if value is None or text is None:
         return value is None and text is None
     if sort.type == REAL:
-        return Decimal(text) == Decimal(value) if sort.is_exact else float(text) == float(value)
+        return _is_number(text, value, Decimal if sort.is_exact else float)
     if isinstance(value, int):
         return text in (str(value), {0: "false", 1: "true"}.get(value))
     if sort.type == DATE:
@@ -665,6 +691,14 @@ def _is_same(value: int | str | None, text: str | None, sort: Sort) -> bool:
     if sort.type == DATE_TIME:
         return _instant(text) == _instant(value)
     return text == value
+
+
+def _is_number(text: str, value: int | str, kind: Callable[[Any], Decimal | float]) -> bool:
+    """Whether a text of the database is a number, and this one. A column of money has none."""
+    try:
+        return kind(text) == kind(value)
+    except (ArithmeticError, ValueError):
+        return False
 
 
 def _instant(text: str) -> datetime.datetime | None:

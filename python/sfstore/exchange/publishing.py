@@ -28,7 +28,8 @@ from sfstore.exchange.ogr import ExchangeError
 from sfstore.exchange.placing import room_beside, uninterrupted
 from sfstore.exchange.ruling import Ruling, ruled
 from sfstore.exchange.sources import check_unchanged, mode_for
-from sfstore.results import AnyRule, ProgramEnded
+from sfstore.results import ProgramEnded
+from sfstore.rules import AnyRule
 from sfstore.sidecar import Sidecar
 from sfstore.store import Store
 from sfstore.storefile import FileLayer, is_store

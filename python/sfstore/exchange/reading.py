@@ -17,6 +17,7 @@ from sfstore.exchange.wayback import LeftLayer
 from sfstore.faults import fault_at
 from sfstore.geometry import KINDS, NotTaken, Shape, read_wkb, write_wkb, write_wkt
 from sfstore.language import COLUMNS_MAX, IDENTIFIER_MAX, POINTS_MAX
+from sfstore.mapunits import MapUnits
 from sfstore.refusals import words_of
 from sfstore.sidecar import LEFT_MAX, ColumnOrigin, LayerOrigin
 from sfstore.store import Kind, Refused, Store
@@ -110,7 +111,7 @@ class LayerImport:
         """The layer as the store is to have it. `ogr.ExchangeError` where the source breaks off."""
         for source_name, name in self._fields.renamed:
             self._note(f"column {source_name!r} has the name {name}")
-        with self._layer.reading(), Store(self._taking.program) as scratch:
+        with Store(self._taking.program) as scratch:
             self._fields.find_odd()
             scratch.add_layer("c", self._taken_kind)
             for batch in self._batches():
@@ -144,7 +145,7 @@ class LayerImport:
     def constraints(self) -> Iterator[Constraint]:
         """What the source demands of the columns that were taken."""
         for column, demands in self._fields.demands().items():
-            yield from (Constraint(self._name, column, demand) for demand in sorted(demands))
+            yield from (Constraint(self._name, column, demanded) for demanded in sorted(demands, key=lambda one: one.demand))
 
     def origin(self) -> LayerOrigin:
         """What the side-car keeps of the layer."""
@@ -158,7 +159,8 @@ class LayerImport:
             self._origins,
             sorted(told - taken)[:LEFT_MAX],
             sorted(told & taken)[:LEFT_MAX],
-            [kept_name(name, "") for left in self._fields.left for name in left.names] + ([_NO_PLACE] if self._flattened else []),
+            [kept_name(name, "") if left.has_values else f"the domain of {kept_name(name, '')}" for left in self._fields.left for name in left.names]
+            + ([_NO_PLACE] if self._flattened else []),
         )
 
     def _batches(self) -> Iterator[list[_Candidate]]:
@@ -277,11 +279,7 @@ class LayerImport:
     def _tell_refused(self, candidate: _Candidate, refused: Refused) -> None:
         reason = f"refused {refused.number} {refused.name}, {words_of(refused.number).reason}"
         fault = fault_at(candidate.shape, refused)
-        detail = ""
-        if fault is not None:
-            places = [self._grid.exact(x, y) for x, y in fault.points]
-            shown = [f"({float(x)!r} {float(y)!r})" for x, y in places]
-            detail = fault.words.format(*shown)
+        detail = fault.words.format(*map(MapUnits(*self._grid.words).point_text, fault.points)) if fault else ""
         self._problem(candidate.identifier, reason, _named(candidate.name, detail), candidate.source)
 
     def _make_multi(self) -> None:
@@ -355,7 +353,7 @@ class LayerImport:
         """Tells how many features there were, and what was left out, rounded, dropped or parted."""
         self._report.read[self._source_name] = len(self._identifiers)
         self._report.taken[self._source_name] = len(self._features)
-        for reason, names in self._fields.left:
+        for reason, names, _ in self._fields.left:
             self._report.problem(self._source_name, None, reason, ", ".join(names))
         for reason, detail in self._layer.lost(len(self._identifiers)):
             self._report.problem(self._source_name, None, reason, detail)

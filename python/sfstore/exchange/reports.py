@@ -61,7 +61,10 @@ class Problem(NamedTuple):
 class Report:
     """All that did not fit, all that was changed, and how many features were taken."""
 
-    def __init__(self) -> None:
+    def __init__(self, source: str = "") -> None:
+        """``source`` is the name of what is read, which is none of its layers."""
+        self.sources = {source}
+        """The names of what is read as a whole."""
         self.problems: list[Problem] = []
         self.changes: list[Problem] = []
         """The features that were taken in another form, as somebody has asked for."""
@@ -94,13 +97,15 @@ class Report:
 
     def summary(self) -> str:
         """A few lines for each layer: counts, reasons with the first identifiers, and notes."""
-        told = (problem.layer for problem in self.problems)
+        told = [problem.layer for problem in self.problems]
         names = [*self.read, *told, *(layer for layer, _ in self.notes)]
         reasons, notes = self._reasons(), self._notes()
         lines = []
         for layer in dict.fromkeys(names):
-            counts = f"{self.read[layer]} features read, {self.taken[layer]} taken"
-            lines.append(f"{ogr.printable(layer)}: {counts}")
+            # What is read as a whole is no layer, and so is a file of which a note alone says something.
+            is_source = layer not in self.read and (layer in self.sources or layer not in told)
+            counts = "" if is_source else f" {self.read[layer]} features read, {self.taken[layer]} taken"
+            lines.append(f"{ogr.printable(layer)}:{counts}")
             found = reasons.get(layer, {})
             shown = [*(_counted(reason, problems) for reason, problems in found.items()), *notes.get(layer, [])]
             lines += [f"  {ogr.printable(text)}" for text in shown]

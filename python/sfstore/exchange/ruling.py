@@ -2,16 +2,19 @@
 
 from __future__ import annotations
 
+import contextlib
 import re
 from collections.abc import Iterable
 from typing import NamedTuple
 
 from sfstore.editor import Editor
-from sfstore.language import NAME, PATTERN, PREDICATES
-from sfstore.results import RULE_BROKEN, AnyRule, Refused, Rule, Value, ValueRule
-from sfstore.rows import rule_of
+from sfstore.exchange.grid import Grid
+from sfstore.language import NAME, NEAR, PATTERN, PREDICATES, distance_asked
+from sfstore.mapunits import MapUnits
+from sfstore.results import RULE_BROKEN, Refused, Value
+from sfstore.rules import AnyRule, Rule, ValueRule, rule_of
 
-__all__ = ["BREAKS_MAX", "Break", "Breaks", "Ruling", "breaks_of", "converse", "rule_said", "ruled"]
+__all__ = ["BREAKS_MAX", "Break", "Breaks", "Ruling", "breaks_of", "converse", "rule_said", "rule_shown", "ruled"]
 
 BREAKS_MAX = 1_000
 """How many features that break a rule are named at most."""
@@ -20,8 +23,8 @@ BREAKS_MAX = 1_000
 _READ_MAX = 5_000_000
 # How many others are named of a feature.
 _OTHERS = 8
-_ASK = f"(?:{PATTERN.pattern}|{'|'.join(PREDICATES)})"
-_RULE = re.compile("{0} (?:never {0} {1} {0}|each {0} {1} some {0}|(?:unique|required) {0} {0})".format(NAME.pattern, _ASK))
+_ASK = f"(?:{PATTERN.pattern}|{'|'.join(PREDICATES)}|{NEAR.pattern})"
+_RULE = re.compile("{0} (?:never {0} {1} {0}|each {0} {1} some {0}|(?:unique|required) {0} {0}|(?:one-of|range) {0} {0} .+)".format(NAME.pattern, _ASK))
 # How much of a text that says no rule is shown.
 _SHOWN = 200
 
@@ -32,7 +35,7 @@ class Break(NamedTuple):
     feature: int
     others: list[int]
     """The features of the other layer with which it is so, or those of the same one that have its value, some of them; none of a
-    rule that demands one, or a value."""
+    rule that a feature breaks by itself."""
     total: int
     """How many these are."""
 
@@ -92,8 +95,8 @@ def _others(store: Editor, rule: AnyRule, feature: int) -> list[int] | None:
         beside = store.join_one(rule.other, converse(rule.ask), rule.layer, feature)
         return beside if bool(beside) == (rule.form == "never") else None
     value = store.get(rule.layer, feature)[0].values.get(rule.column)
-    if rule.demand == "required":
-        return [] if value is None else None
+    if rule.demand != "unique":
+        return [] if rule.is_wrong(value) else None
     return None if value is None else _doubles(store, rule, feature, value)
 
 
@@ -104,17 +107,27 @@ def _doubles(store: Editor, rule: ValueRule, feature: int, value: Value) -> list
 
 def rule_said(line: str) -> AnyRule:
     """The rule that a stranger's line says, as it stands behind `rule add`. `ValueError` where it says none."""
-    if not _RULE.fullmatch(line):
-        raise ValueError(f"{line[:_SHOWN]!r} is no rule")
-    return rule_of(line)
+    if _RULE.fullmatch(line):
+        with contextlib.suppress(ValueError):
+            return rule_of(line)
+    raise ValueError(f"{line[:_SHOWN]!r} is no rule")
+
+
+def rule_shown(rule: AnyRule, grid: Grid) -> str:
+    """A rule as the console has it over a map of a grid: a distance is in the units of the map.
+
+    >>> rule_shown(rule_of("apart never wells near 250 wells"), Grid("0", "0", "0.01"))
+    'apart never wells near 2.5 wells'
+    """
+    return MapUnits(*grid.words).rows("rules", [rule.line])[0]
 
 
 def converse(ask: str) -> str:
     """What a second geometry is asked with a first one, where the first is asked ``ask`` with the second.
 
-    >>> converse("within"), converse("touches"), converse("T*F**F***")
-    ('contains', 'touches', 'T*****FF*')
+    >>> converse("within"), converse("touches"), converse("near 2.5"), converse("T*F**F***")
+    ('contains', 'touches', 'near 2.5', 'T*****FF*')
     """
-    if ask in PREDICATES:
+    if ask in PREDICATES or distance_asked(ask) is not None:
         return {"within": "contains", "contains": "within"}.get(ask, ask)
     return ask[0::3] + ask[1::3] + ask[2::3]

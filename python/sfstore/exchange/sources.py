@@ -5,31 +5,33 @@ from __future__ import annotations
 import contextlib
 import os
 import re
-from collections.abc import Iterator, Mapping, Sequence
-from functools import reduce
+from collections.abc import Callable, Iterable, Iterator, Mapping, Sequence
+from functools import partial, reduce
 from operator import and_
 from typing import Any, NamedTuple
 
 from sfstore.exchange import jsontext, ogr, wayback
 from sfstore.exchange.archives import check_size, is_zip
 from sfstore.exchange.asking import tables_of
+from sfstore.exchange.besides import besides
 from sfstore.exchange.fields import Fields
 from sfstore.exchange.jsonlayer import JsonLayer
 from sfstore.exchange.layers import STRANGER, Feature, Layer, Lost, Source
 from sfstore.exchange.shapefiles import beside, deleted_records, index_fault, table_fault
 from sfstore.exchange.srids import strangers
 from sfstore.exchange.stamps import BESIDE, archive_of, changed, mode_of, stamps_of
+from sfstore.exchange.tables import fault_of
 from sfstore.exchange.views import check_end
 from sfstore.sidecar import Crs
 
-__all__ = ["Opened", "check_unchanged", "mode_for", "open_source"]
+__all__ = ["Opened", "check_unchanged", "mode_for", "of_one_moment", "open_source"]
 
 _SHAPEFILE, _FLATGEOBUF, _DATABASE = "ESRI Shapefile", "FlatGeobuf", "PostgreSQL"
 # The formats whose files say how many features they have, so that one that was cut is seen.
 _COUNTED = (_SHAPEFILE, _FLATGEOBUF)
-# Tables and views of a database in which no column has a geometry. OGR names those of the schema public without it.
+# Tables and views of a database in which no column has a geometry, by names as OGR has them.
 _PLAIN_TABLES = """
-    SELECT CASE nspname WHEN 'public' THEN relname::text ELSE nspname || '.' || relname END AS name
+    SELECT CASE nspname WHEN current_schema() THEN relname::text ELSE nspname || '.' || relname END AS name
     FROM pg_catalog.pg_class JOIN pg_catalog.pg_namespace AS n ON n.oid = relnamespace
     WHERE relkind IN ('r', 'p', 'v', 'm', 'f') AND NOT relispartition
     AND nspname NOT IN ('pg_catalog', 'information_schema') AND nspname !~ '^pg_(temp|toast)'
@@ -39,8 +41,8 @@ _PLAIN_TABLES = """
         WHERE attrelid = pg_class.oid AND NOT attisdropped AND format_type(atttypid, NULL) ~ '(^|[.])(geometry|geography)$')
     ORDER BY 1
 """
-# That all that is read of a layer is of one moment; and how a database writes values, whatever server, database and role
-# have chosen.
+# That all that is read of all layers is of one moment: what one transaction takes from one to another is in one of them.
+# And how a database writes values, whatever server, database and role have chosen.
 _TRANSACTION = (
     "SET TRANSACTION ISOLATION LEVEL REPEATABLE READ, READ ONLY",
     "SET LOCAL datestyle = 'ISO'",
@@ -96,6 +98,15 @@ def check_unchanged(sources: Sequence[Source]) -> None:
             raise ogr.ExchangeError(f"{ogr.printable(path)} was written while it was read: try again")
 
 
+@contextlib.contextmanager
+def of_one_moment(sources: Iterable[Source]) -> Iterator[None]:
+    """In the body each source is read as of one moment."""
+    with contextlib.ExitStack() as held:
+        for source in sources:
+            held.enter_context(source.of_one_moment())
+        yield
+
+
 def mode_for(sources: Sequence[Source], group: int) -> int:
     """The most that a new file of a group may let others do, which has all that the sources have."""
     return reduce(and_, (mode_of(source.files, group) if source.is_whole else 0o700 for source in sources), 0o777)
@@ -115,13 +126,37 @@ def _opened(name: str, any_format: bool, is_measured: bool = False) -> Source:
     if data.GetDriver().ShortName in _JSON and not any_format:
         # OGR reads it otherwise: it changes numbers, and drops names that stand twice, without a word.
         raise ogr.ExchangeError(f"{ogr.printable(name):.200} is GeoJSON, and no file that begins as one: name its file alone")
-    if data.GetDriver().ShortName == _DATABASE:
+    is_database = data.GetDriver().ShortName == _DATABASE
+    if is_database:
         # OGR takes all texts for UTF-8, whatever PGCLIENTENCODING has the database send.
         data.ExecuteSQL("SET client_encoding = 'UTF8'")
-    metadata = data.GetMetadataItem(wayback.ITEM) if data.GetDriver().ShortName == "GPKG" else ""
+    is_geopackage = data.GetDriver().ShortName == "GPKG"
+    metadata = data.GetMetadataItem(wayback.ITEM) if is_geopackage else ""
     layers: list[Layer] = [OgrLayer(data, at) for at in range(data.GetLayerCount())]
     is_whole = data.GetDriver().ShortName in ogr.DRIVERS
-    return Source(name, layers, files, metadata or "", _plain_tables(data, layers), is_whole)
+    is_looked_at = is_whole or data.GetDriver().ShortName == "SQLite"
+    found = besides(data) if is_geopackage else []
+    moment: Callable[[], contextlib.AbstractContextManager[None]] = contextlib.nullcontext
+    if is_database:
+        moment = partial(_transaction, data)
+    return Source(name, layers, files, metadata or "", _plain_tables(data, layers), found, is_whole, is_looked_at, moment)
+
+
+@contextlib.contextmanager
+def _transaction(data: Any) -> Iterator[None]:
+    """A transaction of a database, in which all that is read is of one moment."""
+    try:
+        data.StartTransaction()
+        for statement in _TRANSACTION:
+            data.ExecuteSQL(statement)
+    except RuntimeError as error:
+        raise ogr.ExchangeError(f"the database can't be read: {error}") from None
+    try:
+        yield
+    finally:
+        # Where the database broke off, that is said already.
+        with contextlib.suppress(RuntimeError):
+            data.RollbackTransaction()
 
 
 def _reason(name: str, error: RuntimeError) -> str:
@@ -222,6 +257,9 @@ class OgrLayer(Layer):
         if self._crs is None and not self._crs_fault and self.format == _SHAPEFILE and beside(data, self.name, ".prj"):
             self._crs_fault = "its .prj has none"
 
+    def fault(self) -> str:
+        return fault_of(self._data, self._layer)
+
     def crs(self) -> Crs | None:
         return self._crs
 
@@ -229,28 +267,7 @@ class OgrLayer(Layer):
         try:
             return int(self._layer.GetFeatureCount())
         except RuntimeError as error:
-            raise self._unread(error) from None
-
-    def _unread(self, error: RuntimeError) -> ogr.ExchangeError:
-        return ogr.ExchangeError(f"layer {ogr.printable(self.name)} can't be read: {error}")
-
-    @contextlib.contextmanager
-    def reading(self) -> Iterator[None]:
-        if self.format != _DATABASE:
-            yield
-            return
-        try:
-            self._data.StartTransaction()
-            for statement in _TRANSACTION:
-                self._data.ExecuteSQL(statement)
-        except RuntimeError as error:
-            raise self._unread(error) from None
-        try:
-            yield
-        finally:
-            # Where the database broke off, that is said already.
-            with contextlib.suppress(RuntimeError):
-                self._data.RollbackTransaction()
+            raise ogr.ExchangeError(f"layer {ogr.printable(self.name)} can't be read: {error}") from None
 
     def features(self) -> Iterator[Feature]:
         found = strangers(self._data, self._layer)

@@ -10,13 +10,19 @@ import re
 from typing import Any, NamedTuple
 
 from sfstore.exchange import ogr
-from sfstore.exchange.asking import asked, literal, quoted, table_of, tells_apart
+from sfstore.exchange.asking import asked, literal, quoted, tells_apart
+from sfstore.exchange.tables import table_of
 
 __all__ = ["Strangers", "strangers"]
 
 # What says that a geometry is of no reference system, or of none that is known.
 _UNNAMED = ("0", "-1")
 _WHOLE = re.compile(r"-?[0-9]{1,19}", re.ASCII)
+# The schema of PostGIS.
+_OF_POSTGIS = """
+    SELECT nspname::text AS place, '' AS value
+    FROM pg_catalog.pg_extension JOIN pg_catalog.pg_namespace AS n ON n.oid = extnamespace WHERE extname = 'postgis'
+"""
 # Whether a geometry of a GeoPackage has its numbers with the lowest byte first.
 _IS_LITTLE = "substr(hex(substr({0}, 4, 1)), 2) IN ('1', '3', '5', '7', '9', 'B', 'D', 'F')"
 
@@ -74,7 +80,9 @@ def _of_geopackage(source: Any, layer: Any, table: str) -> tuple[str, str]:
 def _of_postgresql(source: Any, layer: Any, table: str) -> tuple[str, str]:
     """Which rows of a database have such geometries, and what these name, in SQL; nothing where no row has."""
     srid = f"ST_SRID({quoted(layer.GetGeometryColumn())}::geometry)"
-    name = "(SELECT auth_name || ':' || auth_srid FROM spatial_ref_sys AS s WHERE s.srid = found.srid)"
+    # A schema of the search path before that of PostGIS may have a table of this name.
+    place = "".join(f"{quoted(schema)}." for schema, _ in asked(source, layer, _OF_POSTGIS))
+    name = f"(SELECT auth_name || ':' || auth_srid FROM {place}spatial_ref_sys AS s WHERE s.srid = found.srid)"
     query = f"SELECT srid::text AS place, COALESCE({name}, '') AS value FROM (SELECT DISTINCT {srid} AS srid FROM {table}) AS found"
     known = [(number, code) for number, code in asked(source, layer, f"{query} WHERE srid IS NOT NULL")]
     crs = ogr.crs_of(layer)

@@ -7,10 +7,12 @@ from typing import NamedTuple
 
 from sfstore.exchange.grid import Grid
 from sfstore.exchange.reports import Report
-from sfstore.exchange.ruling import Break, Breaks, Ruling
-from sfstore.geometry import read_wkb, write_wkb
+from sfstore.exchange.ruling import Break, Breaks, Ruling, rule_shown
+from sfstore.geometry import Shape, read_wkb, write_wkb
+from sfstore.mapunits import MapUnits
 from sfstore.refusals import words_of
-from sfstore.results import RULE_BROKEN, AnyRule, Refused
+from sfstore.results import RULE_BROKEN, Refused
+from sfstore.rules import AnyRule
 
 __all__ = ["Brought", "BroughtFeature", "Telling"]
 
@@ -40,15 +42,16 @@ class Telling:
         self._source = source
         self._layers = layers
         self._grid = grid
+        self._units = MapUnits(*grid.words)
         self._report = report
 
     def tell(self, rulings: Iterable[Ruling]) -> None:
         """Reports rules that came with a map, in their order: one that was added as a change, else as a problem."""
         for rule, refused, breaks in rulings:
             if refused is None:
-                self._report.note(self._name(rule.layer), f"the rule {rule.line} was added")
+                self._report.note(self._name(rule.layer), f"the rule {rule_shown(rule, self._grid)} was added")
             elif refused.number == RULE_BROKEN:
-                self.tell_broken(rule, rule.layer, breaks, f"breaks the rule {rule.line}, which is left out")
+                self.tell_broken(rule, rule.layer, breaks, f"breaks the rule {rule_shown(rule, self._grid)}, which is left out")
             else:
                 self._tell_refused(rule, refused)
 
@@ -58,11 +61,11 @@ class Telling:
         other = rule.layers[1] if layer == rule.layer else rule.layer
         for found in breaks.found:
             feature = known[layer][found.feature]
-            shape = read_wkb(feature.geometry).mapped(self._grid.places)
-            detail = self._others(found, other, known.get(other, {}))
-            self._report.problem(self._name(layer), feature.identifier, reason, detail, write_wkb(shape))
+            shape = read_wkb(feature.geometry)
+            detail = self._place(shape) + self._others(found, other, known.get(other, {}))
+            self._report.problem(self._name(layer), feature.identifier, reason, detail, write_wkb(shape.mapped(self._grid.places)))
         if not breaks.is_whole:
-            detail = f"{rule.line}: {len(breaks.found)} features that break it are named, and the others were not searched"
+            detail = f"{rule_shown(rule, self._grid)}: {len(breaks.found)} features that break it are named, and the others were not searched"
             self._report.problem(self._name(layer), None, "there may be more", detail)
 
     def _name(self, layer: str) -> str:
@@ -70,8 +73,13 @@ class Telling:
         return self._layers[layer].name if layer in self._layers else self._source
 
     def _tell_refused(self, rule: AnyRule, refused: Refused) -> None:
-        detail = f"{rule.line}: {refused.number} {refused.name}, {words_of(refused.number).reason}"
+        detail = f"{rule_shown(rule, self._grid)}: {refused.number} {refused.name}, {words_of(refused.number).reason}"
         self._report.problem(self._name(rule.layer), None, "a rule is left out", detail)
+
+    def _place(self, shape: Shape) -> str:
+        """Where a feature is, by its first point: whoever has the map before them can go there."""
+        x, y = shape.members[0][0][:2]
+        return f"at {self._units.point_text((int(x), int(y)))}"
 
     def _others(self, found: Break, layer: str, known: Mapping[int, BroughtFeature]) -> str:
         """With which features of the other layer one breaks a rule: those of the source, and those that were there."""
@@ -80,4 +88,4 @@ class Telling:
         parts = [f"{', '.join(new)} of {self._name(layer)}"] if new else []
         parts += [f"{', '.join(old)} of {layer} in the store"] if old else []
         parts += [f"{found.total - len(found.others)} more"] if found.total > len(found.others) else []
-        return f"with {' and '.join(parts)}" if parts else ""
+        return f", with {' and '.join(parts)}" if parts else ""

@@ -30,7 +30,7 @@ def tried(call):
     # Who is asked next may be without an end, whatever is wrong with this one.
     try:
         return call()
-    except RuntimeError:
+    except (RuntimeError, TypeError):
         return None
     finally:
         print(flush=True)
@@ -49,6 +49,9 @@ for kinds in gdal.OF_VECTOR, gdal.OF_VECTOR | gdal.OF_RASTER:
         layer = data.GetLayer(at)
         for call in layer.GetMetadata, layer.GetLayerDefn, layer.GetSpatialRef, layer.GetFeatureCount:
             tried(call)
+        fields = layer.GetLayerDefn()
+        for name in {fields.GetFieldDefn(place).GetDomainName() for place in range(fields.GetFieldCount())} - {"", None}:
+            tried(lambda: data.GetFieldDomain(name))
         if layer.GetName() in views:
             tried(lambda: read(layer))
 """

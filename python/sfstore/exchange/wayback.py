@@ -14,7 +14,7 @@ from sfstore.exchange.formats import RULES_MAX, Part
 from sfstore.exchange.grid import Grid
 from sfstore.exchange.ruling import rule_said
 from sfstore.language import COLUMN_TYPES, NAME
-from sfstore.results import AnyRule
+from sfstore.rules import AnyRule
 from sfstore.sidecar import LayerOrigin
 from sfstore.storefile import FileLayer
 

@@ -2,22 +2,27 @@
 
 from __future__ import annotations
 
+import os
 from collections.abc import Sequence
-from typing import Any
+from typing import Any, Dict, Tuple
 
 from sfstore.exchange import geojson, ogr, wayback
 from sfstore.exchange.columns import DATE, DATE_TIME, REAL, Sort, values_of
 from sfstore.exchange.comparing import compare
-from sfstore.exchange.constraints import constrain
+from sfstore.exchange.constraints import Demanded, constrain, domains_of, ends_set
 from sfstore.exchange.formats import FORMATS, Part
 from sfstore.exchange.grid import Grid
 from sfstore.exchange.moments import day_of, moment_of
+from sfstore.exchange.names import FreeNames
 from sfstore.geometry import KINDS, read_wkb, write_wkb
-from sfstore.results import AnyRule, Demand
+from sfstore.rules import AnyRule
 from sfstore.sidecar import Crs, Sidecar
 from sfstore.storefile import FileFeature
 
 __all__ = ["write_data"]
+
+# The names of domains by the names of layers and the numbers of columns.
+_Domains = Dict[Tuple[str, int], str]
 
 
 def write_data(path: str, name: str, parts: Sequence[Part], found: Sidecar, rules: Sequence[AnyRule] = ()) -> None:
@@ -36,25 +41,46 @@ def write_data(path: str, name: str, parts: Sequence[Part], found: Sidecar, rule
 
 
 def _write_by_ogr(path: str, name: str, parts: Sequence[Part], found: Sidecar, metadata: str) -> None:
+    domains = _domain_names(parts)
     try:
-        data = ogr.driver(name).CreateDataSource(path)
+        data = _made(path, name, parts, domains)
         try:
             for part in parts:
-                _LayerExport(data, name, part, found).write()
+                _LayerExport(data, name, part, found, domains).write()
             if metadata:
                 data.SetMetadataItem(wayback.ITEM, metadata)
         finally:
             # The file is finished and closed here, whoever still has a name for it.
             data.Destroy()
     except RuntimeError as error:
-        raise ogr.ExchangeError(f"{path} can't be written: {error}") from None
+        # It is written in a room of its own, whose name says nothing to anybody.
+        raise ogr.ExchangeError(f"{os.path.basename(path)} can't be written: {str(error) or 'the disk may be full'}") from None
+
+
+def _made(path: str, name: str, parts: Sequence[Part], domains: _Domains) -> Any:
+    """A new set of data, with the domains that say what is demanded of columns."""
+    wanted = [(domains[part.name, number], part.sorts[number], demands) for part in parts for number, demands in part.demands.items()]
+    found = [domain for each in wanted for domain in domains_of(*each)]
+    if not found:
+        return ogr.driver(name).CreateDataSource(path)
+    # OGR's own sets of data take no domains.
+    ogr.make_with_domains(path, name, found, [statement for each in wanted for statement in ends_set(*each)])
+    _, module, _ = ogr.gdal()
+    return module.Open(path, 1)
+
+
+def _domain_names(parts: Sequence[Part]) -> _Domains:
+    """The names of the domains of columns, each another one: ``a_b`` and ``c`` make the same as ``a`` and ``b_c``."""
+    names = FreeNames(is_folded=True)
+    return {(part.name, number): names.new(f"{part.name}_{part.columns[number]}") for part in parts for number in part.demands}
 
 
 class _LayerExport:
     """Writes one layer by OGR."""
 
-    def __init__(self, data: Any, name: str, part: Part, found: Sidecar) -> None:
+    def __init__(self, data: Any, name: str, part: Part, found: Sidecar, domains: _Domains) -> None:
         self._data = data
+        self._domains = domains
         self._format = name
         self._part = part
         self._crs: Crs | None = found.crs
@@ -68,7 +94,8 @@ class _LayerExport:
         target = self._data.CreateLayer(self._part.name, reference, self._kind(), self._options())
         for number, sort in self._part.sorts.items():
             demands = self._part.demands.get(number, frozenset())
-            target.CreateField(self._field(self._part.columns[number], sort, demands))
+            domain = self._domains.get((self._part.name, number), "")
+            target.CreateField(self._field(self._part.columns[number], sort, domain, demands))
         definition = target.GetLayerDefn()
         features = self._part.layer.features
         if self._format == "GPKG":
@@ -113,10 +140,10 @@ class _LayerExport:
         # An index puts features into another order. Without one OGR writes no byte of an empty layer.
         return [f"SPATIAL_INDEX={'NO' if self._part.survey.count else 'YES'}"]
 
-    def _field(self, name: str, sort: Sort, demands: frozenset[Demand]) -> Any:
+    def _field(self, name: str, sort: Sort, domain: str, demands: frozenset[Demanded]) -> Any:
         """The definition of a column."""
         field = self._ogr.FieldDefn(name, getattr(self._ogr, f"OFT{sort.type}"))
-        constrain(field, demands)
+        constrain(field, domain, demands)
         if sort.subtype != "None":
             field.SetSubType(getattr(self._ogr, f"OFST{sort.subtype}"))
         if sort.width:

@@ -3,6 +3,8 @@
 from __future__ import annotations
 
 import hashlib
+import os
+import re
 import time
 from collections.abc import Callable, Sequence
 from pathlib import Path
@@ -25,8 +27,11 @@ _KEPT_SECONDS = 0.5
 
 _STANDING = """
     SELECT CASE WHEN pg_is_in_recovery() THEN '' ELSE pg_walfile_name(pg_current_wal_insert_lsn()) END,
-      head.at, head.chain, head.start
-    FROM sfstore.head
+      head.at, head.start,
+      CASE wanted.at WHEN 0 THEN head.start WHEN head.at THEN head.chain ELSE coalesce(
+        (SELECT chain FROM sfstore.log WHERE log.at = wanted.at), (SELECT chain FROM sfstore.cuts WHERE cuts.at = wanted.at), ''
+      ) END
+    FROM sfstore.head, (SELECT %s::bigint AS at) AS wanted
 """
 
 
@@ -66,10 +71,10 @@ class Standing(NamedTuple):
     """Counted up by each promotion; 0 where it is a standby."""
     at: int
     """The last place of its log."""
-    chain: bytes
-    """The chain there."""
     start: bytes
     """The chain before the first place, which no other log has."""
+    chain: bytes
+    """The chain at the place that was asked for; empty where it is not known any more."""
 
 
 class Fence:
@@ -80,7 +85,7 @@ class Fence:
 
     def __init__(self, path: Path | None = None) -> None:
         self._path = path
-        self.timeline = int(path.read_text()) if path is not None and path.exists() else 0
+        self.timeline = 0 if path is None else _timeline_in(path)
         self.at = 0
         """The last place that was applied here."""
         self.chain = b""
@@ -97,7 +102,7 @@ class Fence:
             )
         if standing.at < self.at:
             return f"ends at place {standing.at}, and {self.at} was applied: it has not the log"
-        if standing.at == self.at and self.chain and standing.chain != self.chain:
+        if standing.chain and self.chain and standing.chain != self.chain:
             return f"has another log than the one that was applied up to place {self.at}"
         return ""
 
@@ -107,9 +112,23 @@ class Fence:
             return
         self.timeline = timeline
         if self._path is not None:
-            with files.whole_file(str(self._path)) as beside:
-                Path(beside).chmod(0o600)
-                Path(beside).write_text(f"{timeline}\n")
+            with files.whole_file(str(self._path)) as file:
+                os.fchmod(file.fileno(), 0o600)
+                file.write(b"%d\n" % timeline)
+
+
+def _timeline_in(path: Path) -> int:
+    """The timeline of a file; 0 where it is not there. `ValueError` where it has none: which primaries are old is not known then."""
+    try:
+        text = path.read_text("ascii", "replace").strip()
+    except FileNotFoundError:
+        return 0
+    if not re.fullmatch("[0-9]{1,10}", text):
+        raise ValueError(
+            f"{path} is damaged: it has to say the highest timeline of the log that was seen here. "
+            "Take it away once no old primary runs any more"
+        )
+    return int(text)
 
 
 class _Servers:
@@ -165,7 +184,7 @@ class _Servers:
         best: Link | None = None
         for dsn in self._servers:
             try:
-                link, standing = _looked_at(dsn)
+                link, standing = _looked_at(dsn, self._fence.at)
             except (LinkLost, LogRefused) as error:
                 reasons.append(f"{place_of(dsn)}: {error}")
                 continue
@@ -201,7 +220,7 @@ class _Servers:
             if dsn == link.dsn:
                 continue
             try:
-                other, standing = _looked_at(dsn)
+                other, standing = _looked_at(dsn, self._fence.at)
             except (LinkLost, LogRefused):
                 continue
             other.close()
@@ -234,6 +253,18 @@ class Following(_Servers):
         Where standbys are late, nothing is given after half a second, and it says why.
         """
         return self._on_link(lambda link: self._behind(link, place), until)
+
+    def standing_of(self, keys: Sequence[str], until: float = 0.0) -> list[int]:
+        """The places of the lines of some keys, of those that stand in the log."""
+        return [int(at) for (at,) in self._ask("SELECT at FROM sfstore.log WHERE key = ANY(%s::uuid[])", (list(keys),), until)]
+
+    def dropped_to(self, place: int, until: float = 0.0) -> int | None:
+        """The last place of the log, where all behind another place was dropped; none where it goes on there, or ends."""
+        words = """
+            SELECT at FROM sfstore.head WHERE at > %s AND NOT EXISTS (SELECT FROM sfstore.log WHERE log.at > %s)
+        """
+        rows = self._ask(words, (place, place), until)
+        return int(rows[0][0]) if rows else None
 
     def chain_at_cut(self, place: int, until: float = 0.0) -> bytes | None:
         """The chain at a cut; none where the log has no such cut, or not any more."""
@@ -399,12 +430,12 @@ class _Waiting:
         self._tell(self.reason)
 
 
-def _looked_at(dsn: str) -> tuple[Link, Standing]:
-    """A connection to a server, and its standing."""
+def _looked_at(dsn: str, place: int) -> tuple[Link, Standing]:
+    """A connection to a server, and its standing, with the chain at a place."""
     link = Link(dsn)
     try:
-        [(file, at, chain, start)] = link.ask(_STANDING, seconds=3.0)
+        [(file, at, start, chain)] = link.ask(_STANDING, (place,), seconds=3.0)
     except BaseException:
         link.close()
         raise
-    return link, Standing(int(file[:8], 16) if file else 0, at, bytes(chain), bytes(start))
+    return link, Standing(int(file[:8], 16) if file else 0, at, bytes(start), bytes(chain))

@@ -238,14 +238,27 @@ class Replica:
         until = time.monotonic() + self._patience
         self._awaited = frozenset(keys)
         try:
-            places = self._writing.append(keys, lines, until)
-            self._catch_up(max(places, default=0), until)
+            while self._put_down(keys, lines, until):
+                pass
         except LogUnreachable as error:
             raise NotAcknowledged(keys, str(error)) from error
-        for key, place in zip(keys, places):
-            if key not in self._answers:
-                raise AnswerGone(f"place {place} of the log was carried out before it was asked for here")
         return [self._answers[key] for key in keys]
+
+    def _put_down(self, keys: Sequence[str], lines: Sequence[str], until: float) -> bool:
+        """Has edits in the log, and carries it out up to them. Whether some were lost with their primary, and have to be tried again.
+
+        A primary whose wait for standbys somebody has ended gives them a place, is lost, and another line gets that place
+        from the next primary. `AnswerGone` where they stand, and were carried out before.
+        """
+        places = self._writing.append(keys, lines, until)
+        self._catch_up(max(places, default=0), until)
+        gone = [key for key in keys if key not in self._answers]
+        if not gone:
+            return False
+        standing = self._following.standing_of(gone, until)
+        if len(standing) == len(gone):
+            raise AnswerGone(f"place {min(standing)} of the log was carried out before it was asked for here")
+        return True
 
     # What a line is answered with
 
@@ -377,8 +390,10 @@ class Replica:
     def _is_as_told(self, snapshot: Snapshot, until: float | None) -> bool:
         """Whether a file is what this login has put down, or what others have, where the login has put one down.
 
-        A login may have put down a wrong one, and have carried the lines out anew after that.
+        A login may have put down a wrong one, and have carried the lines out anew after that. What is no file is none of these.
         """
+        if not snapshot.path.is_file():
+            return False
         try:
             sums = self._following.sums(snapshot.at, until or 0.0)
         except LogUnreachable:
@@ -444,17 +459,23 @@ class Replica:
         """Carries out the next entries. False where there are none that standbys have kept."""
         entries = self._following.behind(self._fence.at)
         if not entries:
+            dropped = self._following.dropped_to(self._fence.at)
+            if dropped is not None:
+                raise self._left_behind(dropped + 1)
             return False
         if entries[0].at != self._fence.at + 1:
-            raise ReplicaStopped(
-                f"the log begins at place {entries[0].at}, and the file here ends at {self._fence.at}: "
-                "begin from the file of another replica"
-            )
+            raise self._left_behind(entries[0].at)
         try:
             self._apply(entries)
         except (_GivenUp, ProgramEnded) as error:
             self._begin_again(str(error))
         return True
+
+    def _left_behind(self, first: int) -> ReplicaStopped:
+        """What is raised where the log begins behind what is here: what stood between was dropped."""
+        return ReplicaStopped(
+            f"the log begins at place {first}, and what is here ends at {self._fence.at}: begin from the file of another replica"
+        )
 
     def _apply(self, entries: Sequence[Entry]) -> None:
         """Carries entries out: the lines between cuts all at once, with nothing seen outside before."""

@@ -17,7 +17,7 @@ from sfstore.language import LINE_MAX
 from sfstore.replica.lines import GROUP_BYTES
 from sfstore.replica.links import LogRefused
 from sfstore.replica.log import LogUnreachable
-from sfstore.replica.replica import NotAcknowledged, Outcome, Replica
+from sfstore.replica.replica import AnswerGone, NotAcknowledged, Outcome, Replica
 from sfstore.store import Refused
 
 __all__ = ["listen", "serve"]
@@ -158,7 +158,7 @@ class _Peer:
 def serve(replica: Replica, given: int, answers: int, tell: Callable[[str], object]) -> None:
     """Answers the lines of a stream, and follows the log meanwhile, until the stream ends.
 
-    `NotAcknowledged`, `ReplicaStopped` and `OSError` end it.
+    `NotAcknowledged`, `AnswerGone`, `ReplicaStopped` and `OSError` end it.
     """
     peer = _Peer(lambda size: os.read(given, size), lambda data: _write(answers, data))
     is_open = True
@@ -171,7 +171,7 @@ def listen(replica: Replica, path: Path, tell: Callable[[str], object]) -> None:
     """Answers all who come to a socket, which this user alone can open, and follows the log meanwhile.
 
     They are answered in turn: while a line of one waits for a standby, the others wait. Who leaves
-    answers lying, or has a line that is not acknowledged, is sent away, and so is who comes when
+    answers lying, or has a line that is not acknowledged or whose answer is gone, is sent away, and so is who comes when
     500 are there. `ReplicaStopped` ends it, and so does an interrupt.
     """
     peers: dict[int, tuple[_Peer, socket.socket]] = {}
@@ -210,7 +210,7 @@ def _is_answered(replica: Replica, peer: _Peer, tell: Callable[[str], object]) -
     """Answers the lines of one of many. False where this one goes, or is sent away."""
     try:
         return peer.answer(replica)
-    except (NotAcknowledged, LogUnreachable, LogRefused) as error:
+    except (AnswerGone, NotAcknowledged, LogUnreachable, LogRefused) as error:
         tell(str(error))
     except OSError:
         # The connection is gone.

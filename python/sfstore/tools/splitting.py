@@ -4,6 +4,7 @@ from __future__ import annotations
 
 from collections.abc import Sequence
 from functools import partial
+from typing import NamedTuple
 
 from sfstore.editor import Editor
 from sfstore.geometry import Shape, read_wkt, write_wkt
@@ -11,8 +12,18 @@ from sfstore.tools.cutting import bent_by, check_parted, cut_of, loose_end, neig
 from sfstore.tools.notdone import NotDone
 from sfstore.tools.pins import pins_of, points_of, shape_of
 from sfstore.tools.rings import doubled, edges_of, polygons_of, written
+from sfstore.tools.sending import Which
 
-__all__ = ["split"]
+__all__ = ["Parted", "parted", "split"]
+
+
+class Parted(NamedTuple):
+    """What parting an area has changed."""
+
+    parts: list[int]
+    """The identifiers of the parts, that of the feature first."""
+    beside: list[Which]
+    """The neighbours that have new corners."""
 
 
 def split(store: Editor, layer: str, feature_id: int, line: str, *, beside: Sequence[str] = ()) -> list[int]:
@@ -36,6 +47,11 @@ def split(store: Editor, layer: str, feature_id: int, line: str, *, beside: Sequ
     [1, 2]
     ['POLYGON ((4 0, 10 0, 10 9, 5 9, 4 0))', 'POLYGON ((0 0, 4 0, 5 9, 0 9, 0 0))']
     """
+    return parted(store, layer, feature_id, line, beside=beside).parts
+
+
+def parted(store: Editor, layer: str, feature_id: int, line: str, *, beside: Sequence[str] = ()) -> Parted:
+    """Parts a polygon as `split` does, and says which neighbours were changed too."""
     # The program reads the line first: what it does not take it refuses by name.
     store.relate(layer, feature_id, line)
     shape = _area(store, layer, feature_id)
@@ -57,6 +73,8 @@ def split(store: Editor, layer: str, feature_id: int, line: str, *, beside: Sequ
         where = "it begins at" if loose is None else "it ends inside of it at"
         raise NotDone(f"the line does not part {layer} {feature_id}: {where} {{}}", loose or points[0])
     texts = [write_wkt(Shape(shape.code, written([part]).members)) for part in parts]
+    bent = {which: it.mapped(partial(with_corners, cut=cut)) for which, it in neighbours.items()}
+    bent = {which: it for which, it in bent.items() if it != neighbours[which]}
     [feature] = store.get(layer, feature_id)
     with store.together() as group:
         group.replace(layer, feature_id, texts[0])
@@ -64,11 +82,9 @@ def split(store: Editor, layer: str, feature_id: int, line: str, *, beside: Sequ
             added = group.add(layer, text)
             for name, value in feature.values.items():
                 group.set(layer, added, name, value)
-        for (other_layer, other), beside_it in neighbours.items():
-            changed = beside_it.mapped(partial(with_corners, cut=cut))
-            if changed != beside_it:
-                group.replace(other_layer, other, write_wkt(changed))
-    return [feature_id, *group.ids]
+        for (other_layer, other), changed in bent.items():
+            group.replace(other_layer, other, write_wkt(changed))
+    return Parted([feature_id, *group.ids], list(bent))
 
 
 def _area(store: Editor, layer: str, feature_id: int) -> Shape:

@@ -15,6 +15,7 @@ from sfstore import spelling
 from sfstore.groups import text_of
 from sfstore.language import GROUP_MAX, MEMBERS, QUESTIONS, words_of_line
 from sfstore.program import is_edit
+from sfstore.results import JournalError
 from sfstore.store import Answer, Editor, Refused
 from sfstore.web.changes import LAST, feature_of
 
@@ -24,11 +25,13 @@ __all__ = [
     "Done",
     "Group",
     "LineRefused",
+    "NotTakenBack",
     "Outcome",
     "batch_of",
     "carry_out",
     "carry_out_group",
     "is_group",
+    "moved",
     "take_back",
 ]
 
@@ -50,6 +53,13 @@ class LineRefused(Exception):
         self.at = at
         """Its place among the lines, from 0."""
         self.refused = refused
+
+
+class NotTakenBack(JournalError):
+    """Steps that are to be moved together stay where they are in part, out of memory. The next opening of the store takes them back."""
+
+    def __init__(self, refused: Refused) -> None:
+        super().__init__(f"a batch, or its undo, was carried out in part and could not be taken back ({refused}): the next opening of the store does it")
 
 
 class Batch(NamedTuple):
@@ -235,12 +245,23 @@ def _first_refused(answers: dict[int, Answer | Refused]) -> LineRefused | None:
 
 
 def take_back(editor: Editor, count: int) -> list[tuple[str, str]]:
-    """Undoes the last lines, and leaves a step that changes nothing as the one to redo. Gives what was accepted."""
+    """Undoes the last lines, and leaves a step that changes nothing as the one to redo, where there is a layer. Gives what was accepted.
+
+    `NotTakenBack` where not all of them can be undone.
+    """
     if not count:
         return []
-    lines = ["undo"] * count
-    outcomes = editor.run_all(lines)
+    undone = moved(editor, ["undo"] * count)
     layers = editor.layers()
     nothing = [f"layer move {layers[0].name} 0", "undo"] if layers else []
-    outcomes += editor.run_all(nothing)
-    return [(line, each) for line, each in zip(lines + nothing, outcomes) if isinstance(each, str)]
+    outcomes = editor.run_all(nothing)
+    return undone + [(line, each) for line, each in zip(nothing, outcomes) if isinstance(each, str)]
+
+
+def moved(editor: Editor, lines: Sequence[str]) -> list[tuple[str, str]]:
+    """Has steps undone or redone that belong together, and gives what was accepted. `NotTakenBack` where one of them is refused."""
+    outcomes = editor.run_all(lines)
+    for each in outcomes:
+        if isinstance(each, Refused):
+            raise NotTakenBack(each)
+    return [(line, str(each)) for line, each in zip(lines, outcomes)]

@@ -109,7 +109,7 @@ class BatchLog:
             if kept == lines[: len(kept)]:
                 self._cut(sum(map(len, kept)))
             else:
-                with files.whole_file(self._path) as beside, open(beside, "wb") as new:
+                with files.whole_file(self._path) as new:
                     new.writelines(kept)
 
     def found(self, records: Sequence[str]) -> Found:

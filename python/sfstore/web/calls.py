@@ -7,22 +7,25 @@ import os
 import re
 import time
 from base64 import b64encode
-from collections.abc import Callable, Sequence
+from collections.abc import Callable, Iterable, Iterator, Sequence
 from fractions import Fraction
 from typing import Any, TypeVar
 
-from sfstore import sidecar, spelling
-from sfstore.broken import Broken, broken_by
-from sfstore.commandline import reason_of
+from sfstore import spelling
+from sfstore.broken import Broken, broken_by, remedy_of, sentence_of
 from sfstore.commands import Command, help_text, near_words
+from sfstore.extents import Box, extent_of
 from sfstore.faults import fault_at, fault_of
 from sfstore.geometry import Shape, read_wkb, write_wkt
 from sfstore.groups import text_of
 from sfstore.language import GRID_MAX, GRID_MIN, QUESTIONS, parted, words_of_line
 from sfstore.lines import geometry_refused
+from sfstore.mapgrid import GridChanged, MapGrid
 from sfstore.mapunits import MapUnits, NoPlace
 from sfstore.refusals import words_of
+from sfstore.rules import AnyRule, ValueRule, range_words, within
 from sfstore.store import Answer, Refused, Store, Value
+from sfstore.surroundings import Surroundings, far_question
 from sfstore.tools.fitting import Corner, fitted
 from sfstore.values import spelled
 from sfstore.web.background import Background
@@ -37,13 +40,15 @@ from sfstore.web.keeper import Asked, ChangedMeanwhile, Edit, Keeper, Overtaken,
 from sfstore.web.logins import Logins
 from sfstore.web.mirror import Mirror
 from sfstore.web.pictures import LEVEL_MAX, Picture, Pictures, Tile
+from sfstore.web.qgisstyles import QgisStyle, QgisStyles, SavedMeanwhile, kind_of
 from sfstore.web.raster import png
 from sfstore.web.rows import identifiers_of, ids_of, rows_of
-from sfstore.web.scales import metres_of
-from sfstore.web.steps import Step
-from sfstore.web.styles import StyleError, Styles, style_of
+from sfstore.web.scales import metres_of, symbol_of
+from sfstore.web.steps import LayerChange, Step
+from sfstore.web.stylefile import StyleError, StyleFile
+from sfstore.web.styles import Styles, style_of
 from sfstore.web.tables import PAGE_MAX, Reading, Tables, Wanted, conditions_of, labels_of
-from sfstore.web.windows import ELEMENTS_MAX, Box, extent_of, shapes_of, window_of
+from sfstore.web.windows import ELEMENTS_MAX, shapes_of, window_of
 
 __all__ = ["BadCall", "Calls", "Outdated"]
 
@@ -103,14 +108,14 @@ class Calls:
         self.events = Events()
         self._background = background
         self._title = os.path.basename(path)
-        self._grid, self._units, self.grid_fault = _grid_of(path)
-        """The last is why coordinates are steps, where the store has a side-car; else empty."""
+        self._surroundings = Surroundings()
         self._keeper = keeper
         self._program = program
         self._editors = Editors(path, keeper.editors)
         self.logins = Logins(self._editors)
         self.styles = Styles(path)
-        keeper.ask_layer_changes(self.styles.catch_up)
+        self.qgis_styles = QgisStyles(path)
+        keeper.ask_layer_changes(self._follow_layers)
         self._history = History()
         self._looks = Mirror(keeper, program, seconds, self._history)
         self._pictures = Pictures()
@@ -139,7 +144,14 @@ class Calls:
             "/history": self._history_of,
             "/styles": self._styles_of,
             "/style": self._style,
+            "/qml": self._qml,
+            "/save-qml": self._save_qml,
         }
+
+    @property
+    def grid_fault(self) -> str:
+        """Why coordinates are steps, where the store has a side-car; else empty."""
+        return self._keeper.last_grid.fault
 
     def close(self) -> None:
         """Ends the second programs."""
@@ -158,20 +170,22 @@ class Calls:
         """The layers with their columns, whose step is next, and how far the map reaches."""
 
         def question(store: Store) -> Body:
+            rules = store.rules()
             layers = [
                 {
                     "name": layer.name,
                     "kind": layer.kind,
-                    "columns": [column._asdict() for column in store.columns(layer.name)],
+                    "columns": [column._asdict() | _demanded(rules, layer.name, column.name) for column in store.columns(layer.name)],
                 }
                 for layer in store.layers()
             ]
-            return {"layers": layers, "extent": extent_of(store) if body.get("extent") else None}
+            grid = self._looks.grid
+            told = {"grid": _told_grid(grid), "grid_mark": grid.mark, "grid_fault": grid.fault or None}
+            return {**told, "layers": layers, "extent": extent_of(store) if body.get("extent") else None}
 
         version, to_undo, to_redo = self._keeper.steps()
         steps = {"undo": self._step(to_undo), "redo": self._step(to_redo)}
-        told = {"title": self._title, "grid": self._grid, "grid_fault": self.grid_fault or None, "version": version}
-        told |= {"background": self._background and self._background._asdict()}
+        told = {"title": self._title, "version": version, "background": self._background and self._background._asdict()}
         return {**told, **steps, **self._looks.ask(editor, question)}
 
     def _window(self, editor: int, body: Body) -> Body:
@@ -213,14 +227,15 @@ class Calls:
 
         def look(store: Store) -> Body:
             shape = read_wkb(bytes.fromhex(store.hex(layer, feature)))
-            values = store.get(layer, feature)[0].values
+            values, rules = store.get(layer, feature)[0].values, store.rules()
             told = [
-                {**column._asdict(), "value": _shown(values[name]) if (name := column.name) in values else None}
+                {**column._asdict(), **_demanded(rules, layer, name), "value": _shown(values[name]) if name in values else None}
                 for column in store.columns(layer)
+                for name in [column.name]
             ]
             measures = self._measures(store, layer, feature)
-            text = write_wkt(shape)
-            wkt = self._units.places(text) if self._units and _is_in_units(body) else text
+            text, units = write_wkt(shape), self._looks.grid.units
+            wkt = units.places(text) if units and _is_in_units(body) else text
             return {"wkt": wkt, **_shape(shape), **measures, "values": told, "version": self._looks.version}
 
         try:
@@ -233,14 +248,15 @@ class Calls:
     def _measures(self, store: Store, layer: str, feature: int) -> Body:
         """The area and the length of a feature as texts, in map units where there is a grid; nothing of what it has not."""
         [area], [length] = store.area(layer, feature), store.length(layer, feature)
-        units = self._units
+        units = self._looks.grid.units
         told = {"area": units.area(area) if units else area, "length": units.length(length) if units else length}
         return {name: format(number, "f") for name, number in told.items() if number}
 
     def _line(self, editor: int, body: Body) -> Body:
         """Carries out a line of the console, or a group as one, as the editor who has logged in."""
         given, page = _text(body, "line"), _page(body)
-        units = self._units if _is_in_units(body) else None
+        grid = self._grid_for(body)
+        units = grid.units if _is_in_units(body) else None
         if next(iter(parted(given)), "") in PAGE_TOOLS:
             return self._draw(editor, body, given)
         try:
@@ -255,17 +271,50 @@ class Calls:
         # Who edits no feature that was there may say of which version they know a column.
         is_seen = features_of(line) or ("seen" in body and seen_of(line))
         seen = _number(body, "seen", 0, 2**53) if is_seen else None
+        question = self._question(editor, body, line, units)
+        if question:
+            return {"question": question}
         try:
             if words == ["save"]:
                 return self._save(editor)
             if words[0] in QUESTIONS:
-                answer = self._questions.ask(editor, lambda store: store.run(line))
+                answer = self._asked(editor, line, grid)
                 return _answered(_in_units(units, line, answer) if units else answer)
-            return self._edit(Asked(editor, page, line, seen))
+            return self._edit(Asked(editor, page, line, seen, grid.mark))
         except Refused as refused:
             return {"refused": self._refusal(refused, line if refused.member is None else refused.line)}
         except ValueError as error:
             raise BadCall(str(error)) from None
+
+    def _grid_for(self, body: Body) -> MapGrid:
+        """The grid of the store as it is open now. `Outdated` where who calls has another one before them."""
+        seen = body.get("grid")
+        if seen is not None and not isinstance(seen, str):
+            raise BadCall("grid has to be a text")
+        try:
+            grid = self._keeper.grid()
+        except GridChanged as changed:
+            raise Outdated(str(changed)) from None
+        if seen not in (None, grid.mark):
+            raise Outdated(str(GridChanged(self._title)))
+        return grid
+
+    def _asked(self, editor: int, line: str, grid: MapGrid) -> Answer:
+        """The answer of a question that was made for a grid. `Outdated` where the store has another one meanwhile."""
+
+        def question(store: Store) -> Answer:
+            if self._questions.grid.mark != grid.mark:
+                raise Outdated(str(GridChanged(self._title)))
+            return store.run(line)
+
+        return self._questions.ask(editor, question)
+
+    def _question(self, editor: int, body: Body, line: str, units: MapUnits | None) -> str:
+        """What is to be asked before a line or a group is carried out, of whoever can be asked; empty where nothing is."""
+        if units is None or not _can_be_asked(body):
+            return ""
+        point = self._surroundings.point_beyond(line, lambda: self._looks.ask(editor, extent_of))
+        return far_question(units.point_text(point)) if point else ""
 
     def _edit(self, asked: Asked) -> Body:
         """Has a line carried out that changes something."""
@@ -276,16 +325,21 @@ class Calls:
 
         The page says which version it has seen: who has changed since then what the tool changes was there before.
         """
-        seen, units = _number(body, "seen", 0, 2**53), self._units if _is_in_units(body) else None
+        seen = _number(body, "seen", 0, 2**53)
         lines: list[str] = []
         for _ in range(_DRAWINGS_MAX):
+            grid = self._grid_for(body)
+            units = grid.units if _is_in_units(body) else None
             try:
                 drawn = self._questions.ask(editor, lambda store: drawn_in(store, self._questions.version, given, units))
                 if not drawn.lines:
                     return {"text": drawn.said}
                 lines = drawn.lines
+                question = next(filter(None, (self._question(editor, body, line, units) for line in lines)), "")
+                if question:
+                    return {"question": question}
                 batch = batch_of(editor, _page(body), lines, [seen if feature_of(line) else None for line in lines])
-                done = self._changing(editor, lambda: self._keeper.carry_out_all(batch, drawn.version))
+                done = self._changing(editor, lambda: self._keeper.carry_out_all(batch, drawn.version, grid.mark))
                 answer = " ".join(["ok", *(answer[3:] for answer in done.answers if answer != "ok")])
                 return {"answer": answer, "changed": _changed(lines)}
             except Overtaken:
@@ -308,14 +362,14 @@ class Calls:
         if _is_in_units(body):
             raise BadCall("a batch counts in steps: only line and feature take units of the map")
         batch = batch_of(editor, _page(body), body.get("lines"), body.get("seen"))
-        lines = batch.lines
+        lines, grid = batch.lines, self._grid_for(body).mark
         if body.get("corners") and any(words_of_line(line)[0] == "vertex" for line in lines):
             # What goes in counts them anew, and what it takes the place of would be lost.
             raise BadCall("a batch with corners has no lines that edit single vertices: replace the feature in their place")
         try:
             if body.get("corners"):
-                return self._fitting(batch, _corners(body["corners"]), _number(body, "shown", 0, 2**53))
-            return self._changing(editor, lambda: self._keeper.carry_out_all(batch))._asdict()
+                return self._fitting(batch, _corners(body["corners"]), _number(body, "shown", 0, 2**53), grid)
+            return self._changing(editor, lambda: self._keeper.carry_out_all(batch, grid=grid))._asdict()
         except LineRefused as refused:
             # One beside was sent by nobody: the last line is named, and the words are those of what is beside.
             line = lines[refused.at] if refused.at < len(lines) else refused.refused.line
@@ -326,14 +380,14 @@ class Calls:
             # Of a group no line is at fault: a rule is looked at behind the last one.
             return {"refused": self._refusal(refused, text_of(lines))}
 
-    def _fitting(self, batch: Batch, corners: Sequence[Corner], shown: int) -> Body:
+    def _fitting(self, batch: Batch, corners: Sequence[Corner], shown: int, grid: str) -> Body:
         """Carries out lines with corners put into the borders beside, as these are just then; ``shown`` is what the asker has seen of them."""
         editor, page, lines, seen = batch
         for _ in range(_DRAWINGS_MAX):
             found, version = self._questions.ask(editor, lambda store: (fitted(store, lines, corners), self._questions.version))
             whole = batch_of(editor, page, found.lines, [*seen, *[shown] * len(found.beside)])
             try:
-                done = self._changing(editor, lambda: self._keeper.carry_out_all(whole, version))
+                done = self._changing(editor, lambda: self._keeper.carry_out_all(whole, version, grid))
             except Overtaken:
                 continue
             own = [_edited(*each) for each, fit in zip(zip(lines, done.answers), found.lines) if fit != each[0]]
@@ -352,6 +406,8 @@ class Calls:
             return change()
         except ChangedMeanwhile as meanwhile:
             raise Outdated(self._meanwhile(meanwhile.target, meanwhile.change)) from None
+        except GridChanged as changed:
+            raise Outdated(str(changed)) from None
 
     def _ids(self, editor: int, body: Body) -> Body:
         """The features of a layer, or those that meet a box."""
@@ -396,17 +452,49 @@ class Calls:
         told = self._looked(editor, layer, lambda store: {"columns": len(store.columns(layer))})
         if "refused" in told:
             return told
-        try:
+        with _kept_beside(self.styles):
             if "fields" in body:
-                self.styles.change(layer, body["fields"])
+                gave_way = self.styles.change(layer, body["fields"])
             else:
-                self.styles.set(layer, None if body.get("style") is None else style_of(body["style"]))
-        except StyleError as error:
-            raise BadCall(f"{error}" if error.args[0] == self.styles.fault else f"{error}: nothing was changed") from None
-        except OSError as error:
-            raise Unavailable(f"The styles can't be written beside the store: {error.strerror}. Nothing was changed.") from error
+                gave_way = self.styles.set(layer, None if body.get("style") is None else style_of(body["style"]))
         self.events.tell({"styled": layer})
-        return {}
+        return _given_way(gave_way)
+
+    def _follow_layers(self, head: str, changes: Sequence[LayerChange]) -> bool:
+        """Has all styles go with their layers. Whether a layer looks otherwise on the page now."""
+        self.qgis_styles.catch_up(head, changes)
+        return self.styles.catch_up(head, changes)
+
+    def _qml(self, editor: int, body: Body) -> Body:
+        """How a layer looks in QGIS, who has saved that, and its mark; and what is wrong with the file that says it, if anything is."""
+        with _kept_beside(self.qgis_styles):
+            layer, kind = spelling.name(_text(body, "layer")), kind_of(body.get("kind", ""))
+        found = self.qgis_styles.style(layer, kind)
+        told: Body = {"qml": None, "by": None, "mark": None}
+        if found is not None:
+            told = {**found._asdict(), "mark": found.mark}
+        return {**told, "fault": self.qgis_styles.fault}
+
+    def _save_qml(self, editor: int, body: Body) -> Body:
+        """Has a layer look otherwise in QGIS, for all who open it there; as QGIS has it by itself where no style is given."""
+        layer, qml, seen = spelling.name(_text(body, "layer")), body.get("qml"), body.get("seen")
+        for name, given in (("qml", qml), ("seen", seen)):
+            if given is not None and not isinstance(given, str):
+                raise BadCall(f"{name} has to be a text or null")
+        told = self._looked(editor, layer, lambda store: {"columns": len(store.columns(layer))})
+        if "refused" in told:
+            return told
+        style = None if qml is None else QgisStyle(qml, self._editors.name_of(editor))
+        with _kept_beside(self.qgis_styles):
+            kind = kind_of(body.get("kind", ""))
+            try:
+                gave_way = self.qgis_styles.save(layer, kind, style, seen)
+            except SavedMeanwhile as meanwhile:
+                who = f"{meanwhile.style.by} has saved another style of {layer}" if meanwhile.style else f"The style of {layer} was taken away"
+                raise Outdated(f"{who} meanwhile: look at it first. Nothing was changed.") from None
+        mark = style.mark if style else None
+        self.events.tell({"qgis_styled": layer, "kind": kind, "mark": mark, "editor": self._editors.name_of(editor)})
+        return {"mark": mark, **_given_way(gave_way)}
 
     def _looked(self, editor: int, layer: str, question: Callable[[Store], Body]) -> Body:
         """What a question about a layer gives, with the version that it is of; or that there is no such layer."""
@@ -430,8 +518,11 @@ class Calls:
         return f"{who} changed {feature} meanwhile, by `{self._shown_line(change.line)}`: look again."
 
     def _save(self, editor: int) -> Body:
-        self._keeper.save()
-        self._keeper.ask_layer_changes(self.styles.catch_up)
+        try:
+            self._keeper.save()
+        except GridChanged as changed:
+            raise Outdated(str(changed)) from None
+        self._keeper.ask_layer_changes(self._follow_layers)
         self._history.take(self._editors.name_of(editor), "save", "save")
         self.events.tell({"saved": self._editors.name_of(editor), "undo": None, "redo": None})
         return {"text": f"{self._title} is saved. The history begins anew."}
@@ -455,7 +546,7 @@ class Calls:
                 told["place"] = self._place(refused, shape)
         broken = self._keeper.ask(lambda store: broken_by(refused, line, store)) if refused.rule else None
         if broken is not None:
-            told["broken"] = _broken(broken)
+            told["broken"] = _broken(broken, self._keeper.last_grid.units)
         return told
 
     def _place(self, refused: Refused, shape: Shape) -> Body | None:
@@ -466,8 +557,8 @@ class Calls:
         if fault is None:
             return None
         # In steps, and as pages show it.
-        words = str(fault)
-        shown = fault.words.format(*map(self._units.point_text, fault.points)) if self._units else words
+        words, units = str(fault), self._keeper.last_grid.units
+        shown = fault.words.format(*map(units.point_text, fault.points)) if units else words
         return {"words": words, "shown": shown, "points": [[float(x), float(y)] for x, y in fault.points]}
 
     def _tell_edits(self, edits: Sequence[Edit]) -> None:
@@ -482,7 +573,7 @@ class Calls:
         changes = [change for edit in edits if edit.stays for change in changed_by(edit.line, edit.step)]
         # The edit is carried out, whether the head of the journal can be read now or not.
         with contextlib.suppress(OSError):
-            if self._keeper.with_layer_changes(self.styles.catch_up):
+            if self._keeper.with_layer_changes(self._follow_layers):
                 self.events.tell({"styled": None})
         told: Body = {
             "version": last.version,
@@ -516,12 +607,43 @@ class Calls:
         if len(line) > _LINE_SHOWN:
             cut = line[:_LINE_SHOWN]
             front = (cut.rpartition(",")[0] or cut) + ", .."
-        return self._units.shown_line(front) if self._units else front
+        units = self._keeper.last_grid.units
+        return units.shown_line(front) if units else front
+
+
+@contextlib.contextmanager
+def _kept_beside(styles: StyleFile[Any]) -> Iterator[None]:
+    """Says of what goes wrong with styles in the body that nothing was changed."""
+    try:
+        yield
+    except StyleError as error:
+        raise BadCall(f"{error}" if error.args[0] == styles.fault else f"{error}: nothing was changed") from None
+    except OSError as error:
+        raise Unavailable(f"The styles can't be written beside the store: {error.strerror}. Nothing was changed.") from error
+
+
+def _given_way(layers: list[str]) -> Body:
+    """What is said of layers that are gone and have lost their styles, for want of room; nothing where there are none."""
+    return {"gave_way": layers} if layers else {}
 
 
 def _shown(value: Value) -> str:
     """A value as a field of the page has it: texts without quotes, others as lines spell them."""
     return value if isinstance(value, str) else spelled(value)
+
+
+def _demanded(rules: Iterable[AnyRule], layer: str, column: str) -> Body:
+    """What the rules on a column say of its values, for whoever is to choose one: those that all allow, and a range in words."""
+    said = [rule for rule in rules if isinstance(rule, ValueRule) and (rule.layer, rule.column) == (layer, column)]
+    lists = [rule.allowed for rule in said if rule.demand == "one-of"]
+    ranges = [rule for rule in said if rule.demand == "range"]
+    told: Body = {}
+    if lists:
+        allowed = [value for value in lists[0] if not any(rule.is_wrong(value) for rule in said)]
+        told["allowed"] = list(dict.fromkeys(map(_shown, allowed)))
+    if ranges:
+        told["range"] = " ".join(range_words(*within(ranges)))
+    return told
 
 
 def _changed(lines: Sequence[str]) -> str:
@@ -531,12 +653,15 @@ def _changed(lines: Sequence[str]) -> str:
     return ", ".join(found[:_CHANGED_SHOWN]) + more
 
 
-def _broken(broken: Broken) -> Body:
+def _broken(broken: Broken, units: MapUnits | None) -> Body:
     """A rule that would be broken: its words, and the features that would break it, of which one may be new."""
     features = [
         {"layer": found.layer, "id": found.feature, **(_shape(found.shape) if found.shape else {})} for found in broken.features
     ]
-    return {"rule": broken.rule.line, "features": features}
+    sentence = sentence_of(broken.rule, [(found.layer, found.feature) for found in broken.features], units)
+    row = broken.rule.line
+    shown = units.rows("rules", [row])[0] if units else row
+    return {"rule": shown, "sentence": sentence, "remedy": remedy_of(broken.rule), "features": features}
 
 
 def _shape(shape: Shape) -> Body:
@@ -549,6 +674,14 @@ def _is_in_units(body: Body) -> bool:
     if units not in ("map", "steps"):
         raise BadCall("units has to be map or steps")
     return bool(units == "map")
+
+
+def _can_be_asked(body: Body) -> bool:
+    """Whether who calls has a person who answers a question before an edit is made, and calls again without this."""
+    asks = body.get("asks", False)
+    if not isinstance(asks, bool):
+        raise BadCall("asks has to be true or false")
+    return asks
 
 
 def _in_units(units: MapUnits, line: str, answer: Answer) -> Answer:
@@ -652,21 +785,13 @@ def _told_tile(tile: Tile, picture: Picture, seen: int) -> Body:
     return {**told, "png": b64encode(png(picture.cells)).decode() if picture.packed else None}
 
 
-def _grid_of(path: str) -> tuple[Body | None, MapUnits | None, str]:
-    """The grid of the map that a store was imported from, as pages have it, its units, and why it is not known.
-
-    Where none is known coordinates are steps, as those of a store that was never imported.
-    """
-    if not os.path.lexists(sidecar.path_of(path)):
-        return None, None, ""
-    try:
-        found = sidecar.read(path)
-        units = MapUnits(*found.grid)
-    except (sidecar.SidecarError, OSError, ValueError) as error:
-        return None, None, f"Coordinates are steps of the grid: {reason_of(error)}"
-    x, y, step = found.grid
-    crs = found.crs
-    return {"x": x, "y": y, "step": step, "crs": str(crs) if crs else None, "metres": metres_of(crs.wkt) if crs else None}, units, ""
+def _told_grid(grid: MapGrid) -> Body | None:
+    """The grid of the map that a store was imported from, as pages have it; none where coordinates are steps."""
+    if grid.found is None:
+        return None
+    (x, y, step), crs = grid.found.grid, grid.found.crs
+    metres, unit = (metres_of(crs.wkt), symbol_of(crs.wkt)) if crs else (None, "")
+    return {"x": x, "y": y, "step": step, "crs": str(crs) if crs else None, "metres": metres, "unit": unit}
 
 
 def _wanted(body: Body) -> Wanted:

@@ -22,6 +22,7 @@ __all__ = [
     "column_of",
     "feature_of",
     "features_of",
+    "renamed_by",
     "seen_of",
     "targets_of",
     "targets_of_members",
@@ -133,6 +134,18 @@ def targets_of(line: str, answer: str = "") -> tuple[Target, ...]:
         return (Target(column[1], None, column[2]),)
     found = _RENAMING.match(line) or _OF_LAYER.match(line)
     return tuple(Target(name, None) for name in found.groups()) if found else ()
+
+
+def renamed_by(line: str, step: str) -> tuple[str, str] | None:
+    """The names of a layer before and after an accepted line, by the step that it made or moved; None where it renamed none.
+
+    >>> renamed_by("layer rename wells springs", "layer rename wells springs"), renamed_by("undo", "layer rename wells springs")
+    (('wells', 'springs'), ('springs', 'wells'))
+    """
+    found = _RENAMING.match(step)
+    if found is None:
+        return None
+    return (found[2], found[1]) if line.strip() == "undo" else (found[1], found[2])
 
 
 class _Last(NamedTuple):

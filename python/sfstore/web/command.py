@@ -134,8 +134,8 @@ def _serve(asked: argparse.Namespace, keeper: Keeper, background: Background | N
 
     calls = Calls(asked.file, keeper, asked.program, asked.seconds, background)
     try:
-        if calls.styles.fault:
-            print(f"sfstore-web: {calls.styles.fault}", file=sys.stderr)
+        for fault in filter(None, (calls.styles.fault, calls.qgis_styles.fault)):
+            print(f"sfstore-web: {fault}", file=sys.stderr)
         with Server(calls, asked.port, background) as server:
             for number in (signal.SIGINT, signal.SIGTERM):
                 signal.signal(number, signal.default_int_handler)

@@ -94,10 +94,8 @@ class Editors:
         return "".join(self._names[number - 1 : number]) or f"editor {number}"
 
     def _write(self, names: list[str]) -> None:
-        with files.whole_file(self._path, self._store) as beside:
-            with open(beside, "w", encoding="utf-8") as file:
-                json.dump(names, file, ensure_ascii=False)
-                file.write("\n")
+        with files.whole_file(self._path, self._store) as file:
+            file.write(json.dumps(names, ensure_ascii=False).encode() + b"\n")
 
 
 def as_name(text: str) -> str:

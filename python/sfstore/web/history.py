@@ -10,9 +10,9 @@ from dataclasses import dataclass, field
 from itertools import islice
 from typing import Any
 
+from sfstore.extents import Box
 from sfstore.store import Editor, Refused
 from sfstore.web.keeper import Edit
-from sfstore.web.windows import Box
 
 __all__ = ["ENTRIES_MAX", "Entry", "History"]
 

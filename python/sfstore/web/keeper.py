@@ -2,19 +2,19 @@
 
 from __future__ import annotations
 
-import os
 import threading
 import time
 import warnings
 from collections.abc import Callable, Sequence
 from concurrent.futures import ThreadPoolExecutor
-from typing import NamedTuple, TypeVar, cast
+from typing import BinaryIO, NamedTuple, TypeVar, cast
 
 from sfstore.commandline import reason_of
 from sfstore.journal import JournalError
+from sfstore.mapgrid import GridChanged, MapGrid
 from sfstore.program import is_edit
 from sfstore.store import Answer, Editor, ProgramEnded, Refused, Store
-from sfstore.web.batches import Batch, Done, LineRefused, carry_out, carry_out_group, is_group, take_back
+from sfstore.web.batches import Batch, Done, LineRefused, NotTakenBack, carry_out, carry_out_group, is_group, moved, take_back
 from sfstore.web.batchlog import BatchLog, new_mark
 from sfstore.web.changes import Change, Changes, Target, seen_of
 from sfstore.web.steps import LayerChange, Step, Steps
@@ -25,8 +25,9 @@ _T = TypeVar("_T")
 
 # How long an edit may take, and a line of a batch more. One that is stopped kept everybody's edits waiting.
 _EDIT_SECONDS, _LINE_SECONDS = 60.0, 0.005
-# How many versions each second has room for, as a power of 2: no program carries out so many edits.
-_VERSIONS_OF_A_SECOND = 20
+# How many versions each millisecond has room for, as a power of 2: no program carries out so many edits. A page
+# counts exactly up to 2**53, which are the milliseconds of some 139 years from 1970.
+_VERSIONS_OF_A_MILLISECOND = 11
 
 
 class Unavailable(Exception):
@@ -59,6 +60,8 @@ class Asked(NamedTuple):
 
     None where it edits no feature that is there.
     """
+    grid: str | None = None
+    """The mark of the grid for which the line was made; none where it has nothing to do with one."""
 
 
 class Edit(NamedTuple):
@@ -82,22 +85,25 @@ class Edit(NamedTuple):
 class Snapshot(NamedTuple):
     """What a second program needs to have the content of the store."""
 
-    path: str | None
-    """The file to load, or none where a new store has not been saved yet."""
+    opened: BinaryIO | None
+    """The file to load, open, or none where a new store has not been saved yet. Whoever has the snapshot closes it."""
     lines: list[str]
     """The edits behind it."""
     version: int
     file: int
     """A number that is another one whenever the file is."""
+    grid: MapGrid
+    """What its coordinates stand for."""
 
 
 class _Begun(NamedTuple):
     """A snapshot of which the edits were not read yet."""
 
-    path: str | None
+    opened: BinaryIO | None
     read: Callable[[], list[str]]
     version: int
     file: int
+    grid: MapGrid
 
 
 class Keeper:
@@ -115,11 +121,12 @@ class Keeper:
         self._path = path
         self._program = program
         self._store: Store | None = None
+        self._grid: MapGrid
         self._steps = Steps()
         self._log = BatchLog(path)
         self._changes = Changes()
         # Above all of an earlier server: what somebody has seen there is none of these, and has to be looked at again.
-        self._version = int(time.time()) << _VERSIONS_OF_A_SECOND
+        self._version = (time.time_ns() // 1_000_000) << _VERSIONS_OF_A_MILLISECOND
         self._file = 0
         self._thread = ThreadPoolExecutor(1, "keeper")
         try:
@@ -132,22 +139,22 @@ class Keeper:
         """The answer of a line. `Refused` where the program refuses it.
 
         `ChangedMeanwhile` where another page has changed its feature since: nothing comes between
-        this look and the edit.
+        this look and the edit. `GridChanged` where it was made for another grid than the store's.
         """
         return self._do(lambda store: self._limited(store, 1, lambda: self._carry_out(store, asked)))
 
-    def carry_out_all(self, batch: Batch, made_for: int | None = None) -> Done:
+    def carry_out_all(self, batch: Batch, made_for: int | None = None, grid: str | None = None) -> Done:
         """Carries out lines as a whole: all of them, or none. They are one step for undo and redo.
 
-        `LineRefused` where one of them is refused, and `ChangedMeanwhile` as for a line. `Overtaken` where they were made
-        for one version of the store, and somebody has edited anything since.
+        `LineRefused` where one of them is refused, and `ChangedMeanwhile` and `GridChanged` as for a line. `Overtaken`
+        where they were made for one version of the store, and somebody has edited anything since.
         """
         count = len(batch.lines)
 
         def job(store: Store) -> Done:
             if made_for not in (None, self._version):
                 raise Overtaken
-            return self._limited(store, count, lambda: self._carry_out_all(store, batch))
+            return self._limited(store, count, lambda: self._carry_out_all(store, batch, grid))
 
         return self._do(job)
 
@@ -159,8 +166,22 @@ class Keeper:
         """The answer of a question that takes no time to speak of."""
         return self._do(lambda store: self._limited(store, 1, lambda: question(store)))
 
+    def grid(self) -> MapGrid:
+        """What the store's coordinates stand for. `GridChanged` where that is something else than when it was opened."""
+
+        def job(store: Store) -> MapGrid:
+            self._check_grid()
+            return self._grid
+
+        return self._do(job)
+
+    @property
+    def last_grid(self) -> MapGrid:
+        """The grid of the last opening. It may be asked by any thread, and by those whom the keeper calls."""
+        return self._grid
+
     def save(self) -> None:
-        """Saves the store; the history begins anew."""
+        """Saves the store; the history begins anew. `GridChanged` where its grid is another one than when it was opened."""
         self._do(self._save)
 
     def snapshot(self) -> Snapshot:
@@ -168,8 +189,10 @@ class Keeper:
         while True:
             begun = self._do(self._begun)
             try:
-                return Snapshot(begun.path, begun.read(), begun.version, begun.file)
+                return Snapshot(begun.opened, begun.read(), begun.version, begun.file, begun.grid)
             except (JournalError, OSError) as error:
+                if begun.opened is not None:
+                    begun.opened.close()
                 # A save has taken its place.
                 if self.is_at(begun.file):
                     raise Unavailable(f"{reason_of(error)}. Every edit that was answered is in the journal.") from error
@@ -212,8 +235,12 @@ class Keeper:
         """Does a job. Where it ends the program, the store is opened anew by the next one."""
         try:
             return job(self._opened())
-        except (ChangedMeanwhile, LineRefused, Overtaken, Refused, ValueError):
+        except (ChangedMeanwhile, GridChanged, LineRefused, Overtaken, Refused, ValueError):
             raise
+        except NotTakenBack as error:
+            # A new program may have the memory for it.
+            self._drop()
+            raise Unavailable(f"{error}.") from error
         except (JournalError, ProgramEnded, RuntimeError, OSError) as error:
             if self._store is not None and not self._is_open(self._store):
                 self._drop()
@@ -267,7 +294,7 @@ class Keeper:
             with warnings.catch_warnings():
                 # A torn record is told by `recovered`.
                 warnings.simplefilter("ignore", RuntimeWarning)
-                store = Store(self._path, journal=True, program=self._program)
+                store = Store(self._path, journal=True, program=self._program, warn_far_off=False)
             try:
                 self._steps = self._found_steps(store)
             except BaseException:
@@ -275,6 +302,8 @@ class Keeper:
                 store.close(save=False)
                 raise
             self._store = store
+            # Another map may have taken its place while nobody had it open.
+            self._grid = MapGrid(self._path)
             self._version += 1
             self._file += 1
             # An edit that was in doubt may be there or not.
@@ -288,7 +317,7 @@ class Keeper:
         if found.left:
             editor = _speaker(store, found.editor)
             if found.is_move:
-                editor.run_all([found.back] * found.left)
+                moved(editor, [found.back] * found.left)
             else:
                 take_back(editor, found.left)
             lines = store.unsaved_lines
@@ -296,9 +325,10 @@ class Keeper:
         return Steps(lines, found.groups)
 
     def _carry_out(self, store: Store, asked: Asked) -> Answer:
+        self._check_grid(asked.grid)
         self._check_seen(asked)
         self._log.give_up()
-        editor, page, line, _ = asked
+        editor, page, line = asked.editor, asked.page, asked.line
         # An undo moves all steps of a batch, or none: they are one editor's.
         count = self._steps.moved_by(line)
         lines = [line + new_mark()] * count if count > 1 else [line]
@@ -306,15 +336,18 @@ class Keeper:
             self._log.begin(store.unsaved, editor, lines)
         answers = _speaker(store, editor).run_all(lines)
         accepted = [answer for answer in answers if is_edit(line.encode(), answer)]
-        if len(accepted) == len(lines):
+        refused = [answer for answer in answers if isinstance(answer, Refused)]
+        if accepted and refused:
+            raise NotTakenBack(refused[0])
+        if accepted:
             self._log.end()
         self._tell([self._taken(Asked(editor, page, line, None), str(answer)) for answer in accepted])
-        for answer in answers:
-            if isinstance(answer, Refused):
-                raise answer
+        if refused:
+            raise refused[0]
         return cast(Answer, answers[0])
 
-    def _carry_out_all(self, store: Store, batch: Batch) -> Done:
+    def _carry_out_all(self, store: Store, batch: Batch, grid: str | None) -> Done:
+        self._check_grid(grid)
         editor, page = batch.editor, batch.page
         for line, seen in zip(batch.lines, batch.seen):
             self._check_seen(Asked(editor, page, line, seen))
@@ -329,6 +362,8 @@ class Keeper:
             if len(lines) > 1:
                 self._log.begin(store.unsaved, editor, lines)
 
+        if len(batch.lines) > 1 and not store.layers():
+            self._try(batch.lines)
         mark = new_mark() if len(batch.lines) > 1 else ""
         outcome = carry_out(_speaker(store, editor), batch.lines, begin, mark)
         number = self._version + 1
@@ -343,10 +378,24 @@ class Keeper:
         self._log.end()
         return Done(outcome.answers, self._version)
 
+    def _try(self, lines: Sequence[str]) -> None:
+        """`LineRefused` where a line of a batch would be refused by a store without layers.
+
+        It is tried in another program: such a store has no step that changes nothing, which would take the place of what
+        could be redone of a batch that was taken back.
+        """
+        trial = Store(program=self._program)
+        try:
+            outcome = self._limited(trial, len(lines), lambda: carry_out(trial, lines))
+        finally:
+            trial.close(save=False)
+        if outcome.refused is not None:
+            raise outcome.refused
+
     def _taken(self, asked: Asked, answer: str, group: int = 0, stays: bool = True) -> Edit:
         """Notes a line that was accepted. One that does not stay is undone by another of the same batch."""
         self._version += 1
-        editor, page, line, _ = asked
+        editor, page, line = asked.editor, asked.page, asked.line
         step = self._steps.take(editor, line, answer, group)
         moved = line.strip()
         front = f"{moved}: " if moved in ("undo", "redo") else ""
@@ -360,6 +409,19 @@ class Keeper:
             for told in self.follow:
                 told(edits)
 
+    def _check_grid(self, made_for: str | None = None) -> None:
+        """`GridChanged` where the store has another grid now than when it was opened, or than what something was made for.
+
+        Where it has, the store is opened anew by the next job, with that grid, and all pages look at it again.
+        """
+        try:
+            self._grid.check()
+        except GridChanged:
+            self._drop()
+            raise
+        if made_for not in (None, self._grid.mark):
+            raise GridChanged(self._path)
+
     def _check_seen(self, asked: Asked) -> None:
         """`ChangedMeanwhile` where a line edits what its page has not seen as it is."""
         if asked.seen is None:
@@ -371,6 +433,7 @@ class Keeper:
                 raise ChangedMeanwhile(target, change)
 
     def _save(self, store: Store) -> None:
+        self._check_grid()
         try:
             store.save()
         finally:
@@ -382,8 +445,8 @@ class Keeper:
                 self._file += 1
 
     def _begun(self, store: Store) -> _Begun:
-        path = self._path if os.path.exists(self._path) else None
-        return _Begun(path, store._reading(), self._version, self._file)
+        read = store._reading()
+        return _Begun(store._open_file(), read, self._version, self._file, self._grid)
 
     def _close(self) -> int:
         if self._store is None:

@@ -6,12 +6,14 @@ takes too long ends it, and not the store; the next question begins it anew.
 
 from __future__ import annotations
 
+import contextlib
+import os
 import threading
 from collections.abc import Callable, Iterator, Sequence
 from concurrent.futures import ThreadPoolExecutor
-from contextlib import contextmanager
-from typing import Protocol, TypeVar
+from typing import BinaryIO, Protocol, TypeVar
 
+from sfstore.mapgrid import MapGrid
 from sfstore.store import ProgramEnded, Refused, Store
 from sfstore.web.keeper import Edit, Keeper, Snapshot, Unavailable
 
@@ -49,7 +51,7 @@ class Mirror:
     """A program that is only asked, and the thread that asks it.
 
     Of each editor one question waits for it at a time: those of others wait for no more than that.
-    `version`, and what watches it, may be used by questions alone, which have this thread.
+    `version`, `grid`, and what watches it, may be used by questions alone, which have this thread.
     """
 
     def __init__(self, keeper: Keeper, program: str, seconds: float, watcher: Watcher | None = None) -> None:
@@ -58,6 +60,7 @@ class Mirror:
         self._seconds = seconds
         self._store: Store | None = None
         self._version = 0
+        self._grid = keeper.last_grid
         self._closed = False
         self._watcher = watcher
         self._thread = ThreadPoolExecutor(1, "mirror")
@@ -70,6 +73,11 @@ class Mirror:
     def version(self) -> int:
         """The version of the store whose content the program has."""
         return self._version
+
+    @property
+    def grid(self) -> MapGrid:
+        """What the coordinates of that content stand for."""
+        return self._grid
 
     def ask(self, editor: int, question: Callable[[Store], _T]) -> _T:
         """The answer of an editor's question. `Unavailable` where it takes too long."""
@@ -98,7 +106,7 @@ class Mirror:
             self._drop()
             raise Unavailable(f"{ended}. Ask again.") from ended
 
-    @contextmanager
+    @contextlib.contextmanager
     def _limited(self, store: Store) -> Iterator[None]:
         """Stops the program where the body takes too long. `Unavailable` says so."""
         stopped = threading.Event()
@@ -157,7 +165,7 @@ class Mirror:
                 self._store = _loaded(self._program, snapshot)
             except ProgramEnded as ended:
                 raise Unavailable(f"No second program can be had: {ended}.") from ended
-            self._version = snapshot.version
+            self._version, self._grid = snapshot.version, snapshot.grid
             # The file may have been saved anew before it was opened.
             if not self._keeper.is_at(snapshot.file):
                 self._drop()
@@ -171,7 +179,7 @@ class Mirror:
                 self._watcher.forget()
 
 
-@contextmanager
+@contextlib.contextmanager
 def _place(places: threading.BoundedSemaphore, words: str) -> Iterator[None]:
     """A place for the body. `Unavailable` with these words where there is none."""
     if not places.acquire(blocking=False):
@@ -183,7 +191,22 @@ def _place(places: threading.BoundedSemaphore, words: str) -> Iterator[None]:
 
 
 def _loaded(program: str, snapshot: Snapshot) -> Store:
-    """A program with the content of a snapshot."""
-    store = Store(program=program, load=snapshot.path)
+    """A program with the content of a snapshot. `Unavailable` where somebody writes over its file meanwhile."""
+    with snapshot.opened or contextlib.nullcontext() as file:
+        if file is None:
+            store = Store(program=program, warn_far_off=False)
+        else:
+            # The open file, since another one may stand under its name by now.
+            before = _written(file)
+            store = Store(program=program, load=file.fileno(), warn_far_off=False)
+            if _written(file) != before:
+                store.close(save=False)
+                raise Unavailable("The store's file was written by another program just now: ask again.")
     store.run_all(snapshot.lines)
     return store
+
+
+def _written(file: BinaryIO) -> tuple[int, int]:
+    """What is another one after any writing to an open file."""
+    found = os.fstat(file.fileno())
+    return found.st_size, found.st_mtime_ns

@@ -11,13 +11,14 @@ import zlib
 from collections.abc import Sequence
 from typing import NamedTuple
 
+from sfstore.extents import Box, rectangle
 from sfstore.geometry import read_wkb
 from sfstore.language import GRID_MAX, GRID_MIN
 from sfstore.store import Editor, Refused
 from sfstore.web import raster
 from sfstore.web.changes import Target
 from sfstore.web.keeper import Edit
-from sfstore.web.windows import Box, hexes_of, rectangle
+from sfstore.web.windows import hexes_of
 
 __all__ = ["LEVEL_MAX", "Picture", "Pictures", "Tile"]
 

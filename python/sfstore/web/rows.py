@@ -4,9 +4,9 @@ from __future__ import annotations
 
 from collections.abc import Sequence
 
+from sfstore.extents import Box, rectangle
 from sfstore.language import GRID_MAX, GRID_MIN, IDENTIFIER_MAX, IDENTIFIERS_MAX
 from sfstore.store import Editor, Refused
-from sfstore.web.windows import Box, rectangle
 
 __all__ = ["ROWS_MAX", "identifiers_of", "ids_of", "rows_of"]
 

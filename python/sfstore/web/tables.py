@@ -17,12 +17,12 @@ from time import monotonic
 from typing import Any, Literal, NamedTuple, cast, get_args
 
 from sfstore import values
+from sfstore.extents import Box, rectangle
 from sfstore.language import GRID_MAX, GRID_MIN, IDENTIFIERS_MAX
 from sfstore.results import Column, ColumnType
 from sfstore.store import Editor
 from sfstore.web.keeper import Edit
 from sfstore.web.rows import rows_of
-from sfstore.web.windows import Box, rectangle
 
 __all__ = ["PAGE_MAX", "Condition", "How", "Reading", "Tables", "Wanted", "conditions_of", "labels_of"]
 

@@ -1,4 +1,4 @@
-"""What a window of the map shows, and how far the map reaches, by questions of the store.
+"""What a window of the map shows, by questions of the store.
 
 The store's index finds what meets a window, and gives each geometry as it is: nothing is
 simplified, and where there is more than a page can show, it is counted.
@@ -9,14 +9,12 @@ from __future__ import annotations
 from collections.abc import Iterator, Sequence
 from typing import Any
 
+from sfstore.extents import Box, rectangle
 from sfstore.geometry import read_wkb
-from sfstore.language import GRID_MAX, GRID_MIN, POINTS_MAX
+from sfstore.language import POINTS_MAX
 from sfstore.store import Editor, Refused
 
-__all__ = ["ELEMENTS_MAX", "Box", "extent_of", "hexes_of", "rectangle", "shapes_of", "window_of"]
-
-Box = tuple[int, int, int, int]
-"""Least x and y, greatest x and y."""
+__all__ = ["ELEMENTS_MAX", "hexes_of", "shapes_of", "window_of"]
 
 ELEMENTS_MAX = 20_000
 """How many features a page draws at most."""
@@ -29,8 +27,6 @@ _DIGITS_OF_A_POINT = 32
 _FIRST_PART = _DIGITS_MAX // (_DIGITS_OF_A_POINT * POINTS_MAX)
 # How many are asked for at a time where those before were small: a question costs time, and larger ones may follow.
 _PART_MAX = 8 * _FIRST_PART
-# How many features of a layer are looked at in one go to find how far it reaches.
-_SAMPLE = 256
 
 
 def window_of(store: Editor, layers: Sequence[str], box: Box, inner: Box | None = None) -> list[dict[str, Any]]:
@@ -104,66 +100,3 @@ def _feature(feature: int, digits: str) -> list[Any]:
     """A feature as a page gets it: its identifier, the code of its kind, and its coordinates."""
     code, members = read_wkb(bytes.fromhex(digits))
     return [feature, code, [[list(map(int, line)) for line in member] for member in members]]
-
-
-def extent_of(store: Editor) -> Box | None:
-    """The least box with all features, or none where there is no feature."""
-    found: Box | None = None
-    for layer in store.layers():
-        found = _layer_extent(store, layer.name, found)
-    return found
-
-
-def _layer_extent(store: Editor, layer: str, found: Box | None) -> Box | None:
-    """The least box with another box and all features of a layer.
-
-    The box grows by some of the features that reach out of it, until there is none: so few are
-    looked at one by one.
-    """
-    # Some features, to begin with: those that there are of these.
-    found = _with_boxes(store, layer, [1 << power for power in range(32)], found)
-    while outside := _outside(store, layer, found):
-        step = max(1, len(outside) // _SAMPLE)
-        found = _with_boxes(store, layer, [*outside[::step], outside[-1]], found)
-    return found
-
-
-def _with_boxes(store: Editor, layer: str, features: Sequence[int], found: Box | None) -> Box | None:
-    """The least box with another box and those of some features."""
-    for answer in store.run_all(f"box {layer} {feature}" for feature in features):
-        if not isinstance(answer, Refused):
-            left, bottom, right, top = map(int, str(answer).split(" "))
-            if found is not None:
-                left, bottom = min(left, found[0]), min(bottom, found[1])
-                right, top = max(right, found[2]), max(top, found[3])
-            found = left, bottom, right, top
-    return found
-
-
-def _outside(store: Editor, layer: str, box: Box | None) -> list[int]:
-    """The features of a layer that reach out of a box on some side."""
-    if box is None:
-        return store.query(layer, "intersects", rectangle((GRID_MIN, GRID_MIN, GRID_MAX, GRID_MAX)))
-    left, bottom, right, top = box
-    sides = [
-        (GRID_MIN, GRID_MIN, left - 1, GRID_MAX),
-        (right + 1, GRID_MIN, GRID_MAX, GRID_MAX),
-        (GRID_MIN, GRID_MIN, GRID_MAX, bottom - 1),
-        (GRID_MIN, top + 1, GRID_MAX, GRID_MAX),
-    ]
-    found: set[int] = set()
-    for side in sides:
-        if side[0] <= side[2] and side[1] <= side[3]:
-            found.update(store.query(layer, "intersects", rectangle(side)))
-    return sorted(found)
-
-
-def rectangle(box: Box) -> str:
-    """A box as well-known text: a polygon, or where it has no area a line or a point."""
-    left, bottom, right, top = box
-    if left < right and bottom < top:
-        corners = f"{left} {bottom}, {right} {bottom}, {right} {top}, {left} {top}, {left} {bottom}"
-        return f"POLYGON (({corners}))"
-    if (left, bottom) == (right, top):
-        return f"POINT ({left} {bottom})"
-    return f"LINESTRING ({left} {bottom}, {right} {top})"

@@ -219,8 +219,8 @@ class Import(ExchangeCase):
         status, out, err = bring_in(self.source, self.store, *GRID, "--report", report)
         self.assertEqual((status, err), (1, ""))
         self.assertIn("awkward: 12 features read, 1 taken\n", out)
-        self.assertIn("13 (edges 0 and 2 of ring 0 meet at (500001.2 5600001.2))", out)
-        self.assertIn("1 off the grid: 1 (x 500000.001 of point 0)", out)
+        self.assertIn("13 (edges 0 and 2 of ring 0 meet at (500001.20 5600001.20))", out)
+        self.assertIn("1 off the grid: 1 (x 500000.001 of point 0, between 500000.00 and 500000.01)", out)
         self.assertIn("table: 0 features read, 0 taken\n  a layer without geometries", out)
         self.assertIn("another reference system: EPSG:4326 in place of EPSG:25832", out)
         lines = [line.split("\t") for line in report.read_text().splitlines()]

@@ -229,10 +229,11 @@ class RefusedByRules(AddingCase):
         self.assertEqual(
             err, f"sfstore-import: nothing was added. Refused 37 RuleBroken, a rule would be broken: {rules[0]}; {rules[1]}\n"
         )
-        named = "5 (with 21 of Flurstücke), 8 (with 9 of Flurstucke in the store), 21 (with 5 of Flurstücke)"
+        far = "at (500001.00 5600000.00)"
+        named = f"5 ({far}, with 21 of Flurstücke), 8 (at (500000.12 5600000.00), with 9 of Flurstucke in the store), 21 ({far}, with 5 of Flurstücke)"
         self.assertIn(f"Flurstücke: 3 features read, 0 taken\n  3 breaks the rule {rules[0]}: {named}\n", out)
-        self.assertIn(f"wells: 2 features read, 0 taken\n  1 breaks the rule {rules[1]}: 31\n", out)
-        self.assertIn(f"wells\t31\tbreaks the rule {rules[1]}\t\n", report.read_text())
+        self.assertIn(f"wells: 2 features read, 0 taken\n  1 breaks the rule {rules[1]}: 31 (at (500003.00 5600003.00))\n", out)
+        self.assertIn(f"wells\t31\tbreaks the rule {rules[1]}\tat (500003.00 5600003.00)\n", report.read_text())
         shown = [each["properties"]["identifier"] for each in json.loads(faulty.read_text())["features"]]
         self.assertEqual(shown, [5, 8, 21, 31])
 
@@ -240,13 +241,14 @@ class RefusedByRules(AddingCase):
         self.ruled(CLEAR)
         self.brought(zones=[(4, PARCELS[0]), (5, FAR)])
         out, _ = self.refused()
-        self.assertIn(f"  1 breaks the rule {CLEAR.line}: 4 (with 1 of wells in the store)\n", out)
+        self.assertIn(f"  1 breaks the rule {CLEAR.line}: 4 (at (500000.00 5600000.00), with 1 of wells in the store)\n", out)
 
     def test_identifiers_that_no_store_has(self):
         self.ruled(APART)
         self.brought(Flurstücke=[(0, FAR), (2**40, FAR)])
         out, _ = self.refused()
-        self.assertIn(f": 0 (with {2**40} of Flurstücke), {2**40} (with 0 of Flurstücke)\n", out)
+        far = "at (500001.00 5600000.00)"
+        self.assertIn(f": 0 ({far}, with {2**40} of Flurstücke), {2**40} ({far}, with 0 of Flurstücke)\n", out)
 
     def test_of_many_features_some_are_named(self):
         self.ruled(APART)
@@ -265,7 +267,7 @@ class RefusedByRules(AddingCase):
             status, out, err = self.add()
         self.assertEqual((status, self.opened()[1]), (3, before))
         self.assertIn("nothing was added. Refused 37 RuleBroken", err)
-        self.assertIn(": 6 (with 9 of Flurstucke in the store)\n", out)
+        self.assertIn(": 6 (at (500000.12 5600000.00), with 9 of Flurstucke in the store)\n", out)
 
     def test_a_step_that_does_not_keep_a_rule_by_itself(self):
         self.ruled(PLACED)

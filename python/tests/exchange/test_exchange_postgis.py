@@ -21,6 +21,7 @@ from test_exchange import HAS_GDAL, ExchangeCase, Source, bring_in, give_back
 from test_exchange_sets import PLAIN
 
 from sfstore import Store
+from sfstore.exchange import sources
 from sfstore.exchange.sources import OgrLayer
 from sfstore.replica.servers import Server, binaries
 
@@ -198,6 +199,48 @@ class Others(DatabaseCase):
         self.written(self.wells("set wells 1 depth 8"), self.target, *PLAIN, "--overwrite")
         self.assertEqual(self.ask("SELECT depth, twice FROM wells"), [(8, 16)])
 
+    def test_what_the_database_computes_is_not_written_and_told_where_it_is_another(self):
+        self.ask("CREATE TABLE w (id int PRIMARY KEY, n int, twice int GENERATED ALWAYS AS (n * 2) STORED, "
+                 "part numeric GENERATED ALWAYS AS (n * 1e-30) STORED, geom geometry(Point)); "
+                 "INSERT INTO w (id, n, geom) VALUES (1, 5, 'POINT(1 1)'), (2, 6, 'POINT(2 2)')")
+        status, out, _ = bring_in(self.target, self.store, *GRID)
+        self.assertEqual(status, 1, out)
+        self.assertEqual(self.written(self.store, self.target, "--overwrite"), "")
+        with Store(self.store, journal=True, program=PROGRAM) as store:
+            store.set("w", 1, "n", 7)
+            store.add("w", "POINT (3 3)")
+            store.set("w", 3, "n", 8)
+        err = self.written(self.store, self.target, "--overwrite")
+        self.assertEqual(err, "the database computes twice of w, and has other values than the store in these rows: 1\n")
+        self.assertEqual(self.ask("SELECT id, n, twice FROM w ORDER BY id"), [(1, 7, 14), (2, 6, 12), (3, 8, 16)])
+
+    def test_a_geometry_that_the_database_computes_stays_as_it_is(self):
+        self.ask("CREATE TABLE w (id int PRIMARY KEY, x int, geom geometry(Point) GENERATED ALWAYS AS (ST_Point(x, 1)) STORED); "
+                 "INSERT INTO w VALUES (1, 5)")
+        self.assertEqual(bring_in(self.target, self.store, *GRID)[0], 0)
+        self.assertEqual(self.written(self.store, self.target, "--overwrite"), "")
+        with Store(self.store, journal=True, program=PROGRAM) as store:
+            store.set("w", 1, "x", 6)
+        self.assertIn("read back, the table w has another geometry of feature 1", self.refused(self.store, self.target, "--overwrite"))
+        self.assertEqual(self.ask("SELECT x, ST_AsText(geom) FROM w"), [(5, "POINT(5 1)")])
+
+    def test_geographies_go_back(self):
+        self.ask("CREATE TABLE w (id int PRIMARY KEY, n int, geog geography(Point)); INSERT INTO w VALUES (1, 5, 'POINT(11 48)')")
+        self.assertEqual(bring_in(self.target, self.store, *GRID)[0], 0)
+        with Store(self.store, journal=True, program=PROGRAM) as store:
+            store.add("w", "POINT (12 49)")
+        self.written(self.store, self.target, "--overwrite")
+        self.assertEqual(self.ask("SELECT id, n, ST_AsText(geog) FROM w ORDER BY id"), [(1, 5, "POINT(11 48)"), (2, None, "POINT(12 49)")])
+        with Store(self.store, journal=True, program=PROGRAM) as store:
+            store.add("w", "POINT (200 49)")
+        self.assertIn("has another geometry of feature 3", self.refused(self.store, self.target, "--overwrite"))
+
+    def test_amounts_of_money_are_no_numbers(self):
+        for kind in ("int", "decimal"):
+            store = self.made(["layer add w point", f"column add w price {kind}", "add w POINT (1 1)", "set w 1 price 7"])
+            self.ask("DROP TABLE IF EXISTS w; CREATE TABLE w (ogc_fid int PRIMARY KEY, price money, wkb_geometry geometry(Point))")
+            self.assertIn("read back, the table w has '$7.00' for ", self.refused(store, self.target, *PLAIN, "--overwrite"))
+
     def test_what_a_trigger_changes_is_seen(self):
         self.written(self.wells(), self.target, *PLAIN)
         for what, body in (
@@ -254,16 +297,35 @@ class Others(DatabaseCase):
 
     def test_a_connection_that_is_lost_before_a_layer_is_read(self):
         self.ask("CREATE TABLE w (id serial PRIMARY KEY, geom geometry(Point)); INSERT INTO w (geom) VALUES ('POINT(1 2)')")
-        reading = OgrLayer.reading
+        for patched, named, what in ((sources, "_transaction", "the database"), (OgrLayer, "columns", "layer w")):
+            going_on = getattr(patched, named)
 
-        def lost(layer):
-            self.ask("SELECT pg_terminate_backend(pid) FROM pg_stat_activity WHERE datname = 'town' AND pid <> pg_backend_pid()")
-            return reading(layer)
+            def lost(*words, going_on=going_on):
+                self.ask("SELECT pg_terminate_backend(pid) FROM pg_stat_activity WHERE datname = 'town' AND pid <> pg_backend_pid()")
+                return going_on(*words)
 
-        with mock.patch.object(OgrLayer, "reading", lost):
-            status, out, err = bring_in(self.target, self.store, *PLAIN[:4])
-        self.assertEqual((status, out), (3, ""), err)
-        self.assertIn("sfstore-import: layer w can't be read: ", err)
+            with mock.patch.object(patched, named, lost):
+                status, out, err = bring_in(self.target, self.store, *PLAIN[:4])
+            self.assertEqual((status, out), (3, ""), err)
+            self.assertIn(f"sfstore-import: {what} can't be read: ", err)
+
+    def test_what_a_transaction_takes_from_one_table_to_another_is_in_one_of_them(self):
+        for first, second in (("a", "b"), ("b", "a")):
+            self.ask("DROP TABLE IF EXISTS a, b; CREATE TABLE a (id int PRIMARY KEY, geom geometry(Point)); CREATE TABLE b (LIKE a INCLUDING ALL); "
+                     f"INSERT INTO {second} VALUES (7, 'POINT(1 2)')")
+            columns = OgrLayer.columns
+
+            def moved(layer, *words, columns=columns, first=first, second=second):
+                if layer.name == second:
+                    # The first one is read by now.
+                    self.ask(f"WITH gone AS (DELETE FROM {second} RETURNING *) INSERT INTO {first} SELECT * FROM gone")
+                return columns(layer, *words)
+
+            with mock.patch.object(OgrLayer, "columns", moved):
+                status, out, err = bring_in(self.target, self.store, *GRID, "--overwrite", "--layer", first, "--layer", second)
+            self.assertEqual((status, err), (0, ""), out)
+            self.assertEqual([len(self.shown(name)) for name in (first, second)], [0, 1])
+            self.assertEqual(self.ask(f"SELECT id FROM {first}"), [(7,)])
 
     def test_keys_that_no_store_has_stay_those_of_their_rows(self):
         for first, second in ((5_000_000_000, -4), (0, 1)):
@@ -443,6 +505,38 @@ class Written(DatabaseCase):
         self.assertIn("columns whose names differ in case alone", out)
         self.assertEqual(self.shown("w")[0].values, {"n": 5})
 
+    def test_tables_with_a_column_that_differs_from_the_key_or_the_geometry_in_case_alone_are_left_out(self):
+        self.ask("CREATE TABLE plain (id int PRIMARY KEY, geom geometry(Point)); INSERT INTO plain VALUES (5, 'POINT(5 5)')")
+        for columns, values, shown in (
+            ('"ID" int PRIMARY KEY, id text, geom geometry(Point)', "1, '7', 'POINT(1 1)'", '"ID" from "id"'),
+            ('id int, "ID" int PRIMARY KEY, geom geometry(Point)', "7, 1, 'POINT(1 1)'", '"id" from "ID"'),
+            ('gid int PRIMARY KEY, "Geom" geometry(Point), geom geometry(Point)', "1, 'POINT(9 9)', 'POINT(1 1)'", '"Geom" from "geom"'),
+            ('gid int PRIMARY KEY, geom geometry(Point), "GEOM" int', "1, 'POINT(1 1)', 5", '"geom" from "GEOM"'),
+        ):
+            with self.subTest(columns):
+                self.ask(f"DROP TABLE IF EXISTS w; CREATE TABLE w ({columns}); INSERT INTO w VALUES ({values})")
+                status, out, err = bring_in(self.target, self.store, *GRID, "--overwrite")
+                self.assertEqual((status, err), (1, ""), out)
+                self.assertIn(f"w: 0 features read, 0 taken\n  the layer is left out: OGR does not tell its columns {shown}: rename one of them\n", out)
+                with Store(PROGRAM, load=self.store) as store:
+                    self.assertEqual([layer.name for layer in store.layers()], ["plain"])
+                # Whoever names it wants it.
+                before = self.store.read_bytes()
+                err = f"sfstore-import: layer w can't be read: OGR does not tell its columns {shown}: rename one of them\n"
+                self.assertEqual(bring_in(self.target, self.store, *GRID, "--overwrite", "--layer", "w"), (3, "", err))
+                self.assertEqual(self.store.read_bytes(), before)
+                status, out, err = bring_in("--suggest", self.target)
+                self.assertEqual((status, err), (0, f"w is left out: OGR does not tell its columns {shown}: rename one of them\n"))
+                self.assertIn("x goes from 5.0 to 5.0\n", out)
+
+    def test_columns_that_differ_from_a_second_geometry_in_case_alone_are_left_out(self):
+        self.ask("CREATE TABLE w (gid serial PRIMARY KEY, geom geometry(Point), \"Other\" geometry(Point), other text, n int); "
+                 "INSERT INTO w VALUES (1, 'POINT(1 1)', 'POINT(9 9)', 'a', 5)")
+        status, out, _ = bring_in(self.target, self.store, *GRID)
+        self.assertEqual(status, 1)
+        self.assertIn("differ in case alone, which OGR does not tell apart, are left out: other\n", out)
+        self.assertEqual([(feature.wkt, feature.values) for feature in self.shown("w")], [("POINT (1 1)", {"n": 5})])
+
     def test_layers_that_would_go_to_one_table_are_refused(self):
         source = Source(self.source)
         source.layer("public.wells", {1: ("POINT (500001 5600001)", {})}, ogr.wkbPoint)
@@ -471,6 +565,27 @@ class Written(DatabaseCase):
         self.assertIn("2 a number of more than 64 bits: 1 (the value of column long is left out), 3 (", out)
         with Store(PROGRAM, load=self.store) as store:
             self.assertEqual([feature.values for feature in store.show("wells")][1], {"whole": 7, "part": Decimal("0.5"), "long": Decimal("0.1")})
+
+    def test_lists_come_in_as_the_database_has_them(self):
+        self.ask("CREATE TABLE w (gid serial PRIMARY KEY, i int[], s smallint[], l bigint[], r real[], d double precision[], "
+                 "n numeric[], b boolean[], t text[], v varchar[], c char(3)[], geom geometry(Point)); "
+                 "INSERT INTO w (i, s, l, r, d, n, b, t, v, c, geom) VALUES "
+                 "('{1,-2}', '{3}', '{9223372036854775807}', '{0.5,-1e+30}', '{0.1,1e-300}', '{1.10}', '{t,f}', '{a,ä}', '{a b}', '{ab}', 'POINT(1 1)'), "
+                 "('[0:1]={1,2}', '[2:3]={7,8}', '[-1:0]={1,2}', '[0:0]={0.5}', '[5:5]={0.1}', '[0:1]={1,2}', '[0:1]={t,f}', '[0:1]={a,b}', '[0:0]={a}', '[3:3]={a}', 'POINT(1 1)'), "
+                 "('{}', '{}', '{}', '{}', '{}', '{}', '{}', '{}', '{}', '{}', 'POINT(1 1)'), "
+                 "('{1,NULL}', '{{1,2},{3,4}}', NULL, '{NaN,1}', '{-Infinity}', '{NULL}', '{NULL,t}', '{NULL}', '{NULL,a}', NULL, 'POINT(1 1)'), "
+                 "(NULL, NULL, NULL, NULL, NULL, NULL, NULL, ARRAY['a\\\\x', '{y}', '', 'NULL', 'a\"b', 'c,d', ' e ', '[f'], '{\"\"}', NULL, 'POINT(1 1)'); "
+                 "CREATE VIEW plain AS SELECT i, t, geom FROM w WHERE gid = 1; CREATE VIEW odd AS SELECT i, t, geom FROM w WHERE gid IN (1, 5)")
+        status, out, err = bring_in(self.target, self.store, *GRID, "--as-text", "--layer", "w", "--layer", "plain", "--layer", "odd")
+        self.assertEqual((status, err), (1, ""), out)
+        self.assertEqual(out.count("left out"), 1, out)
+        self.assertIn("a column with 1 values that are none of its type StringList is left out, since no identifiers say of which features: t\n", out)
+        for column in "islrdnbtvc":
+            wanted = [known for (known,) in self.ask(f"SELECT to_json({column}) FROM w ORDER BY gid")]
+            found = [feature.values.get(column) for feature in self.shown("w")]
+            self.assertEqual([text and json.loads(text) for text in found], wanted, column)
+        self.assertEqual([feature.values for feature in self.shown("plain")], [{"i": "[1, -2]", "t": '["a", "ä"]'}])
+        self.assertEqual([feature.values for feature in self.shown("odd")], [{"i": "[1, -2]"}, {}])
 
     def test_geometries_of_other_reference_systems_are_told(self):
         def made(*srids):
@@ -561,6 +676,50 @@ class Written(DatabaseCase):
             store.add(layer.name, "POINT (2 2)")
         self.written(self.store, self.target, "--overwrite")
         self.assertEqual(self.ask("SELECT gid, ST_X(geom)::int FROM maps.w ORDER BY 1"), [(1, 1), (2, 2)])
+
+    def test_a_name_with_a_point_is_that_of_one_table(self):
+        self.ask("CREATE SCHEMA maps; CREATE TABLE \"maps.w\" (id int PRIMARY KEY, n int, geom geometry(Point)); "
+                 "INSERT INTO \"maps.w\" VALUES (1, 5, 'POINT(1 1)')")
+        status, out, err = bring_in(self.target, self.store, *GRID)
+        self.assertEqual((status, err), (0, ""), out)
+        with Store(self.store, journal=True, program=PROGRAM) as store:
+            [layer] = store.layers()
+            store.set(layer.name, 1, "n", 6)
+        self.written(self.store, self.target, "--overwrite")
+        self.assertEqual(self.ask('SELECT n FROM "maps.w"'), [(6,)])
+        self.assertEqual(self.ask("SELECT to_regclass('maps.w')::text"), [(None,)])
+
+    def test_tables_of_one_name_of_ogr_are_left_out_and_not_replaced(self):
+        self.ask("CREATE SCHEMA maps; CREATE TABLE \"maps.w\" (id int PRIMARY KEY, geom geometry(Point)); "
+                 "INSERT INTO \"maps.w\" VALUES (1, 'POINT(1 1)')")
+        self.assertEqual(bring_in(self.target, self.store, *GRID)[0], 0)
+        self.ask("CREATE TABLE maps.w (LIKE \"maps.w\" INCLUDING ALL); INSERT INTO maps.w VALUES (1, 'POINT(2 2)'), (2, 'POINT(3 3)')")
+        err = self.refused(self.store, self.target, "--overwrite")
+        self.assertIn('OGR does not tell the tables "maps"."w" from "public"."maps.w": rename one of them\n', err)
+        self.assertEqual(self.ask("SELECT count(*) FROM maps.w"), [(2,)])
+        before = self.store.read_bytes()
+        err = 'sfstore-import: layer maps.w can\'t be read: OGR does not tell "maps"."w" from "public"."maps.w": rename one of them\n'
+        self.assertEqual(bring_in(self.target, self.store, *GRID, "--overwrite"), (3, "", err))
+        self.assertEqual(self.store.read_bytes(), before)
+
+    def test_names_of_the_system_are_no_names_of_tables(self):
+        self.ask("CREATE SCHEMA maps")
+        target = f"{self.target} active_schema=maps"
+        for name in ("pg_class", "spatial_ref_sys", "geometry_columns"):
+            store = self.made([f"layer add {name} point", f"add {name} POINT (1 2)"])
+            err = self.refused(store, target, *PLAIN)
+            self.assertIn(f"OGR would not tell a table {name} from the one that the database has for itself: rename the layer\n", err)
+        for name in ("pg_class", "spatial_ref_sys", "pg_wells"):
+            self.ask(f"CREATE TABLE maps.{name} (id int PRIMARY KEY, geom geometry(Point)); INSERT INTO maps.{name} VALUES (1, 'POINT(1 2)')")
+        status, out, err = bring_in(f"{target} schemas=maps", self.store, *GRID, "--overwrite")
+        self.assertEqual((status, err), (1, ""), out)
+        self.assertIn("pg_class: 0 features read, 0 taken\n  the layer is left out: OGR finds the table of the system that has its name: rename it\n", out)
+        for name in ("spatial_ref_sys", "pg_wells"):
+            self.assertIn(f"{name}: 1 features read, 1 taken\n", out)
+        # By the name of its schema it is another one.
+        status, out, err = bring_in(f"{self.target} tables=maps.pg_class", self.store, *GRID, "--overwrite")
+        self.assertEqual((status, out, err), (0, "maps.pg_class: 1 features read, 1 taken\n  the layer has the name maps_pg_class\n", ""))
+        self.written(self.store, self.target, "--overwrite")
 
     def test_words_that_are_wrong(self):
         store = self.wells()

@@ -5,13 +5,16 @@ from __future__ import annotations
 import json
 import struct
 import unittest
+from decimal import Decimal
+from unittest import mock
 
 from support import PROGRAM, TestCase
 
 from test_exchange import GRID, ExchangeCase, Source, bring_in, give_back  # isort: skip
-from sfstore import Refused, Rule, Store, storefile
-from sfstore.exchange import ruling, wayback
+from sfstore import ProgramEnded, Refused, Rule, Store, ValueRule, storefile
+from sfstore.exchange import exporting, ruling, wayback
 from sfstore.exchange.formats import RULES_MAX
+from sfstore.language import LINE_MAX
 from sfstore.results import RULE_BROKEN
 
 # Three parcels in a row, of which the third overlaps the second; a well in the first one, and one outside.
@@ -112,11 +115,57 @@ class OutAndIn(RuledCase):
             status, _, err = give_back(self.store, self.folder / "back.shp", *words)
             self.assertEqual(status, 2)
             self.assertIn("store, map and rules are different files", err)
+        beside = {"back.shp": ["back.sbn", "back.CPG", "back.shp.xml"], "back.gpkg": ["back.gpkg-wal"], "map": ["map/wells.geojson", "map/mine/r.txt"]}
+        for target, names in beside.items():
+            for name in names:
+                words = ["--layer", "wells", "--overwrite", "--rules", self.folder / name, *(["--format", "GeoJSON"] if target == "map" else [])]
+                status, _, err = give_back(self.store, self.folder / target, *words)
+                self.assertEqual((status, (self.folder / target).exists()), (2, False), name)
+                self.assertIn("no rules stand in the folder of a map or are read with it", err)
         named = self.folder / "own.dbf"
         self.store.rename(named)
         status, _, err = give_back(named, self.folder / "own.shp", "--layer", "wells", "--overwrite")
         self.assertEqual(status, 2)
         self.assertIn("the target is the store's own file", err)
+
+    def test_rules_take_the_place_of_nothing_that_has_come_since(self):
+        """As the map itself, which the same command has written."""
+        self.made()
+        with mock.patch.object(exporting, "_goes_with", lambda *words: False):
+            words = ["--format", "GeoJSON", *GRID, "--crs", "EPSG:25832", "--overwrite", "--rules", self.folder / "map" / "wells.geojson"]
+            status, _, err = give_back(self.store, self.folder / "map", *words)
+        self.assertEqual(status, 3)
+        self.assertIn("the map is written, but not its rules: ", err)
+        self.assertIn("is a map or no text, and --overwrite replaces none by rules", err)
+        self.assertTrue((self.folder / "map" / "wells.geojson").read_text().startswith("{"))
+
+    def test_a_file_of_rules_has_each_value(self):
+        """Letters of each language, and more values than fit into a short line."""
+        texts = ["Straße", "it's", "a, b", "two\nlines", "\u2028", *(f"{number:03} {'x' * 300}" for number in range(900))]
+        ruled = [ValueRule("uses", "one-of", "wells", "use", tuple(texts)), ValueRule("sizes", "range", "wells", "size", (), None, Decimal("0.5"))]
+        with Store(PROGRAM, save=self.store) as store:
+            store.run_all(["layer add wells point", "column add wells use text", "column add wells size decimal", "add wells POINT (1 1)"])
+            store.set("wells", 1, "use", "Straße")
+            store.set("wells", 1, "size", Decimal("0.5"))
+            for rule in ruled:
+                store.add_value_rule(*rule)
+        rules, again = self.folder / "rules.txt", self.folder / "again.sfs"
+        target = self.folder / "map.geojson"
+        status, _, err = give_back(self.store, target, *GRID, "--crs", "EPSG:25832", "--rules", rules)
+        self.assertEqual((status, err), (0, ""))
+        self.assertEqual(rules.read_text(encoding="utf-8"), "".join(f"rule add {rule.line}\n" for rule in ruled))
+        written = rules.read_bytes()
+        # As it is, as editors of Windows write it, and by hand.
+        for data in written, b"\xef\xbb\xbf" + written.replace(b"\n", b"\r\n"), written.replace(b"', '", b"' ,\t'"):
+            rules.write_bytes(data)
+            status, _, err = bring_in(target, again, *GRID, "--rules", rules, "--overwrite")
+            self.assertEqual((status, err, self.rules(again)), (0, "", ruled))
+
+    def test_what_a_terminal_obeys_is_not_written_to_it(self):
+        with Store(PROGRAM, save=self.store) as store:
+            store.run_all(["layer add wells point", "column add wells use text", "add wells POINT (1 1)", "rule add r one-of wells use '\x9b31m'"])
+        _, _, err = give_back(self.store, self.folder / "map.geojson", *GRID, "--crs", "EPSG:25832")
+        self.assertIn(r"GeoJSON does not keep the rule r one-of wells use '\x9b31m'", err)
 
     def test_a_layer_that_is_left_in_the_map_takes_its_rules_with_it(self):
         self.made()
@@ -124,7 +173,7 @@ class OutAndIn(RuledCase):
         again = self.folder / "again.sfs"
         status, out, _ = bring_in(self.target, again, "--layer", "wells")
         self.assertEqual(status, 1)
-        self.assertIn("back.gpkg: 0 features read, 0 taken\n  a rule is left out: apart never parcels T******** parcels: 18 NoLayer, ", out)
+        self.assertIn("back.gpkg:\n  a rule is left out: apart never parcels T******** parcels: 18 NoLayer, ", out)
         self.assertEqual(self.rules(again), [RULES[2]])
 
     def test_a_map_without_rules_has_none_in_its_metadata(self):
@@ -140,18 +189,24 @@ class OutAndIn(RuledCase):
         again = self.folder / "again.sfs"
         self.assertEqual(bring_in(self.target, again)[0], 0)
         self.assertEqual(self.rules(again), rules[:-2])
+        path, target = self.folder / "rules.txt", self.folder / "map.fgb"
+        status, _, err = give_back(self.store, target, "--layer", "wells", "--rules", path)
+        told = [line for line in err.splitlines() if "rule" in line]
+        self.assertEqual(told, [f"a file of rules has 1000 at most, and is without the rule {rule.line}" for rule in rules[-2:]])
+        self.assertEqual(bring_in(target, again, *GRID, "--rules", path, "--overwrite")[0], 0)
+        self.assertEqual(self.rules(again), rules[:-2])
 
 
 class DoNotHold(RuledCase):
     """Maps that another program has changed since they were exported."""
 
-    def changed(self, features, rules, identifiers=None):
-        """A map of parcels and wells that says rules."""
+    def changed(self, features, rules, identifiers=None, **left):
+        """A map of parcels and wells that says rules, and what else an export leaves."""
         source = Source(self.source)
         for name in ("parcels", "wells"):
             numbered = dict(zip(identifiers or range(1, 99), features[name]))
             source.layer(name, {number: (in_map(wkt), {}) for number, wkt in numbered.items()})
-        source.data.SetMetadataItem(wayback.ITEM, json.dumps({"layers": [], "rules": [rule.line for rule in rules]}))
+        source.data.SetMetadataItem(wayback.ITEM, json.dumps({"layers": [], "rules": [rule.line for rule in rules], **left}))
         source.close()
 
     BROKEN = {"parcels": [*PARCELS, OVERLAPPING], "wells": ["POINT (5 5)", "POINT (9 9)", "POINT (50 50)"]}
@@ -161,14 +216,16 @@ class DoNotHold(RuledCase):
         report, faulty = self.folder / "report", self.folder / "faulty.geojson"
         status, out, err = bring_in(self.source, self.store, *GRID, "--report", report, "--faulty", faulty)
         self.assertEqual((status, err), (1, ""))
-        parcels = f"  2 breaks the rule {APART.line}, which is left out: 20 (with 30 of parcels), 30 (with 20 of parcels)\n"
-        wells = f"  2 breaks the rule {PLACED.line}, which is left out: 20, 30\n  the rule {RULES[2].line} was added\n"
+        # The first point of each, in the coordinates of the map.
+        places = [f"at ({place})" for place in ("500000.09 5600000.00", "500000.12 5600000.00", "500000.09 5600000.09", "500000.50 5600000.50")]
+        parcels = f"  2 breaks the rule {APART.line}, which is left out: 20 ({places[0]}, with 30 of parcels), 30 ({places[1]}, with 20 of parcels)\n"
+        wells = f"  2 breaks the rule {PLACED.line}, which is left out: 20 ({places[2]}), 30 ({places[3]})\n  the rule {RULES[2].line} was added\n"
         self.assertIn(f"parcels: 3 features read, 3 taken\n{parcels}", out)
         self.assertIn(f"wells: 3 features read, 3 taken\n{wells}", out)
         self.assertEqual(self.rules(), [RULES[2]])
         with Store(PROGRAM, load=self.store) as store:
             self.assertEqual([feature.id for feature in store.show("parcels")], [10, 20, 30])
-        self.assertIn(f"parcels\t20\tbreaks the rule {APART.line}, which is left out\twith 30 of parcels\n", report.read_text())
+        self.assertIn(f"parcels\t20\tbreaks the rule {APART.line}, which is left out\t{places[0]}, with 30 of parcels\n", report.read_text())
         shown = json.loads(faulty.read_text())["features"]
         self.assertEqual([each["properties"]["identifier"] for each in shown], [20, 30, 20, 30])
         self.assertEqual(shown[0]["geometry"]["coordinates"][0][0], [500000.09, 5600000])
@@ -180,7 +237,8 @@ class DoNotHold(RuledCase):
             status, out, _ = bring_in(self.source, self.store, *GRID, "--overwrite")
             self.assertEqual(status, 1)
             first, second = identifiers[1:]
-            self.assertIn(f"{first} (with {second} of parcels), {second} (with {first} of parcels)\n", out)
+            at_first, at_second = "at (500000.09 5600000.00)", "at (500000.12 5600000.00)"
+            self.assertIn(f"{first} ({at_first}, with {second} of parcels), {second} ({at_second}, with {first} of parcels)\n", out)
             with Store(PROGRAM, load=self.store) as store:
                 wanted = [1, 2, 3] if added is None else [number + added for number in identifiers]
                 self.assertEqual([feature.id for feature in store.show("parcels")], wanted)
@@ -193,31 +251,60 @@ class DoNotHold(RuledCase):
         self.addCleanup(setattr, ruling, "BREAKS_MAX", most)
         status, out, _ = bring_in(self.source, self.store, *GRID)
         self.assertEqual(status, 1)
-        self.assertIn(f"  40 breaks the rule {APART.line}, which is left out: 1 (with 2, 3, 4, 5, 6, 7, 8, 9 of parcels and 81 more), ", out)
+        self.assertIn(f"  40 breaks the rule {APART.line}, which is left out: 1 (at (500000.00 5600000.00), with 2, 3, 4, 5, 6, 7, 8, 9 of parcels and 81 more), ", out)
         self.assertIn(" and 32 more\n", out)
         self.assertIn(f"  there may be more: {APART.line}: 40 features that break it are named, and the others were not searched", out)
 
     def test_rules_that_are_written_by_hand(self):
         self.changed({"parcels": PARCELS, "wells": ["POINT (5 5)", "POINT (50 50)"]}, [RULES[2]])
         rules = self.folder / "rules.txt"
-        rules.write_text(f"{APART.line}\r\n\n  \nrule add {PLACED.line}")
+        rules.write_text(f"{APART.line}\r\n\n  \n\t rule add  {PLACED.line.replace(' ', '  ')}")
         status, out, _ = bring_in(self.source, self.store, *GRID, "--rules", rules)
         self.assertEqual((status, self.rules()), (1, [RULES[2], APART]))
-        self.assertIn(f"  1 breaks the rule {PLACED.line}, which is left out: 2\n", out)
+        self.assertIn(f"  1 breaks the rule {PLACED.line}, which is left out: 2 (at (500000.50 5600000.50))\n", out)
+
+    def test_distances_of_rules_are_those_of_the_map(self):
+        left = Rule("left", "never", "wells", "near 3", "wells")
+        self.changed({"parcels": PARCELS, "wells": ["POINT (5 5)", "POINT (50 50)"]}, [left], grid=GRID[1:])
+        rules = self.folder / "rules.txt"
+        rules.write_text("rule add spaced never wells near 0.02 wells\nfine never wells near 0.0000015 wells\n")
+        finer = [*GRID[:-1], "0.001"]
+        _, out, _ = bring_in(self.source, self.store, *finer, "--rules", rules)
+        self.assertIn("a rule is left out: fine never wells near 0.0000015 wells: the distance 0.0000015 is no whole number of thousandths of a grid step;", out)
+        wanted = [Rule("left", "never", "wells", "near 30", "wells"), Rule("spaced", "never", "wells", "near 20", "wells")]
+        self.assertEqual(self.rules(), wanted)
+        status, _, err = give_back(self.store, self.folder / "map", "--format", "GeoJSON", "--rules", self.folder / "given.txt")
+        self.assertEqual(status, 0, err)
+        self.assertEqual((self.folder / "given.txt").read_text(), "rule add left never wells near 0.03 wells\nrule add spaced never wells near 0.02 wells\n")
+        for line in ("left never wells near 0.03 wells", "spaced never wells near 0.02 wells"):
+            self.assertIn(f"the rule {line} was added", out)
+
+    def test_what_breaks_a_rule_by_a_distance_is_named(self):
+        self.changed({"parcels": PARCELS, "wells": ["POINT (5 5)", "POINT (8 9)", "POINT (50 50)"]}, [], grid=GRID[1:])
+        never, each = "spaced never wells near 0.05 wells", "served each wells near 0.3 some parcels"
+        rules = self.folder / "rules.txt"
+        rules.write_text(f"{never}\n{each}\nserved each parcels near 0.01 some wells\n")
+        status, out, _ = bring_in(self.source, self.store, *GRID, "--rules", rules)
+        self.assertEqual((status, self.rules()), (1, [Rule("served", "each", "parcels", "near 1", "wells")]))
+        first, second = "at (500000.05 5600000.05)", "at (500000.08 5600000.09)"
+        told = f"1 ({first}, with 2 of wells), 2 ({second}, with 1 of wells)"
+        self.assertIn(f"  2 breaks the rule {never}, which is left out: {told}\n", out)
+        self.assertIn(f"  1 breaks the rule {each}, which is left out: 3 (at (500000.50 5600000.50))\n", out)
+        self.assertIn("the rule served each parcels near 0.01 some wells was added", out)
 
     def test_a_file_that_has_no_rules(self):
         self.changed({"parcels": PARCELS, "wells": []}, [])
         path = self.folder / "rules.txt"
         good = f"{APART.line}\n".encode()
-        wrong = [b"x", b"\0", b"\xff" * 9, good + b"undo", good.replace(b"never", b"always"), b"rule add rule add " + good, b" " + good]
+        wrong = [b"x", b"\0", b"\xff" * 9, good + b"undo", good.replace(b"never", b"always"), b"rule add rule add " + good, b"x" * 2**20, b"n one-of wells use 'a"]
         for data in wrong:
             path.write_bytes(data)
             status, _, err = bring_in(self.source, self.store, *GRID, "--rules", path)
             self.assertEqual((status, self.store.exists()), (3, False), data)
             self.assertRegex(err, "rules.txt, line [12]: ")
-        for data in (good * (RULES_MAX + 1), b"x" * 2**20):
+        for data, told in ((good * (RULES_MAX + 1), "has more than 1000 rules"), (b"x" * (LINE_MAX + 1), "line 1: it has more than 4,194,304 bytes")):
             path.write_bytes(data)
-            self.assertIn("has more than 1000 rules", bring_in(self.source, self.store, *GRID, "--rules", path)[2])
+            self.assertIn(told, bring_in(self.source, self.store, *GRID, "--rules", path)[2])
         for words in (["--rules", self.folder], ["--rules", self.folder / "none"]):
             self.assertEqual(bring_in(self.source, self.store, *GRID, *words)[0], 3)
         for words in (["--rules", self.source], ["--rules", self.store], ["--rules", path, "--add"]):
@@ -255,9 +342,14 @@ class DoNotHold(RuledCase):
 
 
 class Files(TestCase):
-    """Files of version 3, as `storefile` reads them."""
+    """Files with rules, as `storefile` reads them."""
 
-    RULES = [*RULES, *(Rule(f"p{at}", "never", "wells", ask, "parcels") for at, ask in enumerate(["crosses", "overlaps", "FF*FF0***"]))]
+    ASKS = ("crosses", "overlaps", "FF*FF0***", "near 0", "near 20", "near 150.500", "near 0.001", "near 4294967295.999", "near 4294967295")
+    RULES = [
+        *RULES,
+        *(Rule(f"p{at}", "never", "wells", ask, "parcels") for at, ask in enumerate(ASKS)),
+        Rule("served", "each", "wells", "near 2.010", "parcels"),
+    ]
 
     def setUp(self):
         super().setUp()
@@ -293,11 +385,29 @@ class Files(TestCase):
             with self.assertRaises(ValueError):
                 storefile.read_with_rules(wrong)
 
+    def test_a_distance_is_wrong_where_the_program_says_so(self):
+        form = self.data.index(b"\x06served") + 7
+        self.assertEqual(self.data[form : form + 1], b"\x08")
+        distance = form + 1 + len(b"\x05wells")
+        self.assertEqual(self.data[distance : distance + 8], (2_010).to_bytes(8, "big"))
+        self.assertEqual(storefile.field_at(self.data, distance), "distance of a rule")
+        for number in (4_294_967_296_000, 2**63, 2**64 - 1):
+            wrong = self.data[:distance] + number.to_bytes(8, "big") + self.data[distance + 8 :]
+            self.path.write_bytes(wrong)
+            with self.assertRaises(ProgramEnded) as caught:
+                Store(PROGRAM, load=self.path)
+            self.assertEqual(caught.exception.last_line, f"fault load BadFile {distance} 34")
+            with self.assertRaises(ValueError):
+                storefile.read_with_rules(wrong)
+        # Files of the third version have none of these.
+        with self.assertRaises(ValueError):
+            storefile.read_with_rules(b"SFSTORE3" + self.data[8:])
+
 
 class Looked(TestCase):
     def test_a_converse_ask_lists_the_same_pairs(self):
         shapes = ["POINT (1 1)", "LINESTRING (0 0, 3 3)", "LINESTRING (0 3, 3 0)", PARCELS[0], OVERLAPPING, "POLYGON ((2 2, 4 2, 4 4, 2 4, 2 2))"]
-        asks = ["equals", "disjoint", "intersects", "touches", "within", "contains", "crosses", "overlaps", "T*F**F***", "FF*FF0***", "*0*1*2***"]
+        asks = ["equals", "disjoint", "intersects", "touches", "within", "contains", "crosses", "overlaps", "T*F**F***", "FF*FF0***", "*0*1*2***", "near 0", "near 1.414", "near 1.415"]
         with Store(PROGRAM) as store:
             store.add_layer("a")
             for shape in shapes:

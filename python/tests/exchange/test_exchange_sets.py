@@ -70,7 +70,7 @@ class Tables(SetCase):
         before = target.read_bytes()
         status, _, err = give_back(store, target, "--overwrite")
         self.assertEqual(status, 3)
-        self.assertIn(f"{target} has tables that the store has not, and they would be lost: layer_styles. Name another file", err)
+        self.assertIn(f"{target} has tables that the new one has not, and they would be lost: layer_styles. Name another file", err)
         self.assertEqual(target.read_bytes(), before)
 
     def test_nor_is_one_with_pictures_or_with_tables_that_ogr_does_not_list(self):
@@ -99,7 +99,7 @@ class Tables(SetCase):
                 before = target.read_bytes()
                 status, _, err = give_back(store, target, *PLAIN, "--overwrite")
                 self.assertEqual(status, 3)
-                self.assertIn(f"tables that the store has not, and they would be lost: {name}. Name another file", err)
+                self.assertIn(f"tables that the new one has not, and they would be lost: {name}. Name another file", err)
                 self.assertEqual(target.read_bytes(), before)
                 if begin:
                     status, out, _ = bring_in(target, self.store, "--overwrite")
@@ -120,12 +120,111 @@ class Tables(SetCase):
             store.delete("wells", 3)
         self.assertIn(words, give_back(self.store, path, "--overwrite")[2])
 
-    def test_one_that_has_what_an_export_has_left_is_replaced(self):
+    def test_nor_is_one_with_layers_or_columns_that_are_not_written(self):
+        store, target = self.made("t.sfs", [*WELLS, "layer add roads linestring", "add roads LINESTRING (0 0, 5 5)"]), self.folder / "out.gpkg"
+        self.assertEqual(give_back(store, target, *PLAIN)[0], 0)
+
+        def refused(store, what, *words):
+            before = target.read_bytes()
+            status, _, err = give_back(store, target, "--overwrite", *words)
+            self.assertEqual(status, 3)
+            self.assertIn(f"{target} has {what}. Name another file, or take that one away\n", err)
+            self.assertEqual(target.read_bytes(), before)
+
+        def edited(*lines):
+            with Store(store, journal=True, program=PROGRAM) as opened:
+                opened.run_all(lines)
+
+        refused(store, "tables that the new one has not, and they would be lost: roads", "--layer", "wells")
+        refused(self.made("u.sfs", OTHERS), "tables that the new one has not, and they would be lost: roads", *PLAIN)
+        edited("layer rename roads streets")
+        refused(store, "tables that the new one has not, and they would be lost: roads")
+        edited("layer rename streets roads", "column drop wells label")
+        refused(store, "columns that the new one has not, and they would be lost: wells.label")
+        edited("column add wells label text")
+        with contextlib.closing(sqlite3.connect(target)) as opened:
+            opened.executescript("ALTER TABLE wells ADD COLUMN photo text; ALTER TABLE roads ADD COLUMN Lanes int")
+        refused(store, "columns that the new one has not, and they would be lost: roads.Lanes, wells.photo")
+        edited("column add wells photo text", "column add roads lanes int")
+        self.assertEqual(give_back(store, target, "--overwrite"), (0, "", ""))
+
+    def test_rows_of_others_are_told_before_they_go(self):
         store, target = self.made("t.sfs", WELLS), self.folder / "out.gpkg"
         self.assertEqual(give_back(store, target, *PLAIN)[0], 0)
-        with Store(store, journal=True, program=PROGRAM) as opened:
-            opened.run_all(["layer rename wells springs"])
-        self.assertEqual(give_back(store, target, "--overwrite")[0], 0)
+        self.assertEqual(give_back(store, target, "--overwrite"), (0, "", ""))
+        data = gdal.OpenEx(str(target), gdal.OF_UPDATE)
+        layer = data.GetLayer(0)
+        for number in (7, 40):
+            feature = ogr.Feature(layer.GetLayerDefn())
+            feature.SetFID(number)
+            feature.SetGeometry(ogr.CreateGeometryFromWkt("POINT (9 9)"))
+            layer.CreateFeature(feature)
+        del feature, layer, data
+        words = f"the layer wells of {target} has 2 rows that the store has not, and they are removed: 7, 40\n"
+        self.assertEqual(give_back(store, target, "--overwrite"), (0, "", words))
+
+    def test_rows_without_a_key_are_told_too(self):
+        store, target = self.made("t.sfs", WELLS), self.folder / "out.gpkg"
+        self.assertEqual(give_back(store, target, *PLAIN)[0], 0)
+        with contextlib.closing(sqlite3.connect(target)) as opened:
+            opened.executescript(
+                "CREATE TABLE loose AS SELECT * FROM wells; DROP TABLE wells; ALTER TABLE loose RENAME TO wells; "
+                "INSERT INTO wells SELECT * FROM wells; DELETE FROM gpkg_extensions WHERE table_name = 'wells'"
+            )
+        status, _, err = give_back(store, target, "--overwrite")
+        self.assertEqual(status, 0, err)
+        words = f"the layer wells of {target} has no key of one column: rows that the store has not are removed, and can't be named\n"
+        self.assertIn(words, err)
+
+    def test_one_that_can_not_be_read_is_not_replaced(self):
+        store, target = self.made("t.sfs", WELLS), self.folder / "out.gpkg"
+        self.assertEqual(give_back(store, target, *PLAIN)[0], 0)
+        good = target.read_bytes()
+        for data in (good[:100] + bytes(len(good) - 100), good[:50]):
+            target.write_bytes(data)
+            status, _, err = give_back(store, target, "--overwrite")
+            self.assertEqual(status, 3)
+            self.assertIn(f"{target} can't be read, and may have what would be lost", err)
+            self.assertEqual(target.read_bytes(), data)
+
+    def test_nor_is_one_that_another_program_has_locked(self):
+        store, target = self.made("t.sfs", WELLS), self.folder / "out.gpkg"
+        self.assertEqual(give_back(store, target, *PLAIN)[0], 0)
+        before = target.read_bytes()
+        with contextlib.closing(sqlite3.connect(target, isolation_level=None)) as locking:
+            locking.execute("PRAGMA locking_mode = exclusive")
+            locking.execute("BEGIN EXCLUSIVE")
+            status, _, err = give_back(store, target, "--overwrite")
+        self.assertEqual(status, 3)
+        self.assertIn(str(target), err)
+        self.assertEqual(target.read_bytes(), before)
+
+    def test_one_that_is_written_meanwhile_is_not_replaced(self):
+        store, target = self.made("t.sfs", WELLS), self.folder / "out.gpkg"
+        self.assertEqual(give_back(store, target, *PLAIN)[0], 0)
+        write = exporting.write_data
+
+        def written(*words):
+            with contextlib.closing(sqlite3.connect(target)) as opened:
+                opened.executescript("CREATE TABLE notes (note text)")
+            write(*words)
+
+        with mock.patch.object(exporting, "write_data", written):
+            status, _, err = give_back(store, target, "--overwrite")
+        self.assertEqual((status, err), (3, f"sfstore-export: {target} was written by another program meanwhile: try again\n"))
+        with contextlib.closing(sqlite3.connect(target)) as opened:
+            self.assertEqual(opened.execute("SELECT count(*) FROM notes").fetchone(), (0,))
+
+    def test_keys_that_no_store_has_are_those_of_its_rows(self):
+        features = {5_000_000_000: ("POINT (500001 5600001)", {}), 7: ("POINT (500002 5600001)", {})}
+        self.points(features, options=["FID=osm"])
+        self.assertEqual(bring_in(self.source, self.store, *GRID)[0], 0)
+        with Store(self.store, journal=True, program=PROGRAM) as store:
+            [gone] = [feature.id for feature in store.show("wells") if feature.values["osm"] == 7]
+            store.delete("wells", gone)
+        status, _, err = give_back(self.store, self.source, "--overwrite")
+        self.assertEqual(status, 0)
+        self.assertIn(f"the layer wells of {self.source} has 1 row that the store has not, and they are removed: 7\n", err)
 
 
 class Sets(SetCase):

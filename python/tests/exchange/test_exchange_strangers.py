@@ -403,6 +403,36 @@ class Stored(ExchangeCase):
             self.assertIn("is left out", detail)
             self.assertEqual((len(shown[3]), len(shown[2])), (4, 5), (column, value))
 
+    def test_so_are_those_of_sqlite(self):
+        columns = [("i", ogr.OFTInteger64), ("r", ogr.OFTReal), ("d", ogr.OFTDate), ("m", ogr.OFTDateTime), ("t", ogr.OFTString), ("b", ogr.OFTBinary)]
+        values = {"i": 5, "r": 0.5, "d": "2020/01/31", "m": "2020/01/31 10:00:00", "t": "x"}
+        path = self.folder / "town.sqlite"
+        source = Source(path, "SQLite")
+        source.layer("w", {k: (POINT, values) for k in range(1, 5)}, ogr.wkbPoint, columns)
+        source.close()
+        words = [path, self.store, *GRID, "--any-format", "--overwrite", "--as-text"]
+        self.assertEqual(bring_in(*words), (0, "w: 4 features read, 4 taken\n  column m: 4 values are without a zone: taken as of UTC\n", ""))
+        whole = self.shown("w")[0].values
+        with contextlib.closing(sqlite3.connect(path)) as database:
+            database.execute("UPDATE w SET i = 'abc', r = '7.5xyz', d = 'nonsense', m = 'soon', t = x'00ff', b = 'text' WHERE ogc_fid = 2")
+            database.execute("UPDATE w SET i = 2.75 WHERE ogc_fid = 3")
+            database.commit()
+        status, out, err = bring_in(*words)
+        self.assertEqual((status, err), (1, ""))
+        for kind, shown in (("Integer64", "'abc'"), ("Real", "'7.5xyz'"), ("Date", "'nonsense'"), ("DateTime", "'soon'"), ("String", "X'00FF'"), ("Binary", "'text'")):
+            self.assertIn(f" a value that is none of the column's type {kind}: 2 (the value {shown} of column ", out)
+        self.assertIn(", 3 (the value 2.75 of column i is left out)\n", out)
+        rows = [feature.values for feature in self.shown("w")]
+        self.assertEqual(rows, [whole, {}, {name: value for name, value in whole.items() if name != "i"}, whole])
+
+    def test_values_of_other_formats_are_said_to_be_those_of_ogr(self):
+        path = self.folder / "town.kml"
+        path.write_text('<kml xmlns="http://www.opengis.net/kml/2.2"><Document><Placemark><name>a</name><Point><coordinates>1,1</coordinates>'
+                        "</Point></Placemark></Document></kml>")
+        status, out, err = bring_in(path, self.store, "--grid", "0", "0", "1", "--any-format", "--drop-zm")
+        self.assertEqual(err, "")
+        self.assertIn("town.kml:\n  its values are those that OGR reads, which may be others than the source's\n", out)
+
     def test_values_of_the_type_are_kept(self):
         self.changed("n = -2147483648, big = -9223372036854775808 WHERE fid = 1", "n = NULL WHERE fid = 2")
         status, _, told, shown = self.brought_in("--as-text")
@@ -482,6 +512,20 @@ class Views(ExchangeCase):
                 self.assertEqual((said[0], said[1], self.store.exists(), self.source.read_bytes()), (3, "", False, before), said[2])
                 self.assertIn("has views, and nothing of them came within 2 seconds: they may have no end.", said[2])
 
+    def test_one_without_an_end_in_the_place_of_what_values_mean(self):
+        Source(self.source).layer("wells", {1: (POINT, {"n": "a"})}, columns=[("n", ogr.OFTString)]).close()
+        with contextlib.closing(sqlite3.connect(self.source)) as base, base:
+            base.execute("CREATE TABLE gpkg_data_columns (table_name, column_name, name, title, description, mime_type, constraint_name)")
+            base.execute("INSERT INTO gpkg_data_columns VALUES ('wells', 'n', 'n', NULL, NULL, NULL, 'domain')")
+            base.execute(
+                f"CREATE VIEW gpkg_data_column_constraints AS {self.ENDLESS} SELECT 'd' || n AS constraint_name, 'enum' AS constraint_type, "
+                "n AS value, NULL AS min, 1 AS min_is_inclusive, NULL AS max, 1 AS max_is_inclusive, '' AS description FROM t"
+            )
+        with mock.patch.object(views, "_SECONDS", 2.0):
+            status, out, err = bring_in(self.source, self.store, *GRID)
+        self.assertEqual((status, out, self.store.exists()), (3, "", False), err)
+        self.assertIn("has views, and nothing of them came within 2 seconds: they may have no end.", err)
+
     def test_one_with_an_end_is_read(self):
         self.viewed("SELECT fid, geom, n FROM wells")
         status, out, err = bring_in(self.source, self.store, *GRID)
@@ -559,7 +603,7 @@ class Odd(ExchangeCase):
         self.points({k: (f"POLYGON (({bow}))", {}) for k in range(1, 4)})
         out = bring_in(self.source, self.store, *GRID)[1]
         for k in range(1, 4):
-            self.assertIn(f"{k} (edges 0 and 2 of ring 0 meet at (500004.5 5600004.5))", out)
+            self.assertIn(f"{k} (edges 0 and 2 of ring 0 meet at (500004.50 5600004.50))", out)
 
 
 class Reports(ExchangeCase):

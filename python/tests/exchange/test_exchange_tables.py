@@ -187,7 +187,7 @@ class Tables(TableCase):
         source.close()
         status, out, _ = self.brought(self.source)
         self.assertEqual((status, self.values()), (1, [{"soil": 2}]))
-        self.assertIn("domains of columns, which say what their values mean, are left out: soil (soils)\n", out)
+        self.assertIn("domains of columns, which say what their values mean or what no rule says, are left out: soil (soils)\n", out)
 
 
 class ReferenceSystems(TableCase):

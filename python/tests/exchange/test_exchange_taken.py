@@ -106,8 +106,8 @@ class Large(ExchangeCase):
                     3: (None, {"name": "Nowhere"})}
         self.points(features, columns=columns)
         _, out, _ = bring_in(self.source, self.store, *GRID)
-        self.assertIn("1 (Mill: edges 0 and 2 of ring 0 meet at (500001.2 5600001.2))", out)
-        self.assertIn("2 (Well: x 500000.001 of point 0)", out)
+        self.assertIn("1 (Mill: edges 0 and 2 of ring 0 meet at (500001.20 5600001.20))", out)
+        self.assertIn("2 (Well: x 500000.001 of point 0, between 500000.00 and 500000.01)", out)
         self.assertIn("3 (Nowhere)", out)
 
     def test_z_is_said_to_be_dropped_on_demand_and_a_proposal_drops_it(self):
@@ -205,7 +205,7 @@ class Collections(ExchangeCase):
         self.points({3: (collection, {}), 4: ("GEOMETRYCOLLECTION EMPTY", {})})
         status, out, _ = bring_in(self.source, self.store, *self.WORDS)
         self.assertEqual(status, 1)
-        for said in ("1 off the grid: 3 (x 0.5 of point 0)", "1 refused 10 ShortLine", "1 a curve or surface: 3"):
+        for said in ("1 off the grid: 3 (x 0.5 of point 0, between 0 and 1)", "1 refused 10 ShortLine", "1 a curve or surface: 3"):
             self.assertIn(said, out)
         self.assertEqual([(feature.id, feature.wkt) for feature in self.shown("wells")], [(3, "POINT (1 1)")])
 

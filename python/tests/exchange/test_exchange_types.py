@@ -467,7 +467,7 @@ class OfPostGis(DatabaseCase):
                  "(3, '{1,2}', NULL, '{a}', '{0.5}', '{t}', 'POINT(1 4)')")
         status, out, err = bring_in(self.target, self.store, "--grid", "0", "0", "1", "--layer", "w", "--as-text")
         # OGR's own reading of lists in lists of texts, which is not taken.
-        told = "w: 3 features read, 3 taken\nthe database: 0 features read, 0 taken\n  OGR warns: Incorrect string list : {{a},{b}}\n"
+        told = "w: 3 features read, 3 taken\nthe database:\n  OGR warns: Incorrect string list : {{a},{b}}\n"
         self.assertEqual((status, out, err), (1, told, ""))
         found = [{name: json.loads(text, parse_float=Decimal) for name, text in feature.values.items()} for feature in self.shown("w")]
         self.assertEqual(found, [

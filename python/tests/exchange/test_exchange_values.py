@@ -355,7 +355,7 @@ class ReadBack(SetCase):
         )
         self.check(
             "the column t is missing",
-            self.replaced(writing._LayerExport, "_field", lambda self, name, sort, demands: (self, name.upper(), sort, demands)),
+            self.replaced(writing._LayerExport, "_field", lambda self, name, *words: (self, name.upper(), *words)),
             names=("GPKG", "FlatGeobuf", "ESRI Shapefile"),
         )
 

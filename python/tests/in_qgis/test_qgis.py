@@ -8,6 +8,7 @@ import random
 import signal
 import subprocess
 import sys
+import tempfile
 import time
 import unittest
 from pathlib import Path
@@ -19,7 +20,7 @@ from sfstore import Store
 from sfstore.web.client import Client
 
 HERE = Path(__file__).resolve().parents[1]
-CASES = HERE / "qgis_cases.py"
+CASES = ["qgis_cases", "qgis_asking"]
 
 
 def has_qgis(python: str) -> bool:
@@ -37,16 +38,18 @@ PYTHON = next(filter(has_qgis, (sys.executable, "/usr/bin/python3")), None)
 
 @unittest.skipUnless(PYTHON, "no QGIS (apt-get install qgis python3-qgis)")
 class InQgis(unittest.TestCase):
-    """Each class of `qgis_cases`."""
+    """Each class of the modules of `CASES`."""
 
 
 def _run_of(name):
     def test(self):
-        words = [PYTHON, "-W", "ignore", "-m", "unittest", f"qgis_cases.{name}"]
-        environment = {**os.environ, "QT_QPA_PLATFORM": "offscreen", "SFSTORE": PROGRAM}
-        ended = subprocess.run(
-            words, cwd=HERE, env=environment, stdout=subprocess.PIPE, stderr=subprocess.STDOUT, timeout=600
-        )
+        words = [PYTHON, "-W", "ignore", "-m", "unittest", name]
+        # Settings are those of a user: another QGIS beside this one would change them.
+        with tempfile.TemporaryDirectory() as home:
+            environment = {**os.environ, "QT_QPA_PLATFORM": "offscreen", "SFSTORE": PROGRAM, "HOME": home}
+            ended = subprocess.run(
+                words, cwd=HERE, env=environment, stdout=subprocess.PIPE, stderr=subprocess.STDOUT, timeout=600
+            )
         self.assertEqual(ended.returncode, 0, ended.stdout.decode("utf-8", "replace")[-6_000:])
 
     return test
@@ -128,9 +131,10 @@ class Sessions(WebCase):
             self.assertIn(f"set parcels {number} owner '{value}'", at)
 
 
-for each in ast.parse(CASES.read_text(encoding="utf-8")).body:
-    if isinstance(each, ast.ClassDef):
-        setattr(InQgis, f"test_{each.name}", _run_of(each.name))
+for module in CASES:
+    for each in ast.parse((HERE / f"{module}.py").read_text(encoding="utf-8")).body:
+        if isinstance(each, ast.ClassDef):
+            setattr(InQgis, f"test_{each.name}", _run_of(f"{module}.{each.name}"))
 
 
 if __name__ == "__main__":

@@ -131,7 +131,8 @@ class Mendings(ModelCase):
 
         @contextlib.contextmanager
         def in_its_place(path, like=None):
-            yield path
+            with open(path, "wb") as file:
+                yield file
             files.sync(path)
 
         with mock.patch.object(files, "whole_file", in_its_place):

@@ -11,11 +11,16 @@ import sys
 import unittest
 from unittest import mock
 
+from programs import path_of as program_path
 from support import FOLDER, PROGRAM, TestCase
 
-from sfstore import JournalError, Store, files, sidecar
-from sfstore.journal import locked
+from sfstore import JournalError, Store, console, files, sidecar
+from sfstore.journal import locked, path_of
 from sfstore.kept import Kept
+from sfstore.replica.log import Fence
+from sfstore.web.batchlog import BatchLog
+from sfstore.web.editors import Editors
+from sfstore.web.styles import Styles
 
 
 class JournalThreats(TestCase):
@@ -29,8 +34,8 @@ class JournalThreats(TestCase):
     def opened(self):
         return Store(self.path, journal=True, program=PROGRAM)
 
-    def points(self):
-        with Store(load=self.path, program=PROGRAM) as store:
+    def points(self, path=None):
+        with Store(load=path or self.path, program=PROGRAM) as store:
             return [feature.wkt for feature in store.show("w")]
 
     def other_program_adds(self, point):
@@ -230,6 +235,61 @@ class JournalThreats(TestCase):
                     store.copy(name)
         self.assertEqual(len(self.points()), 2)
 
+    def test_no_edit_goes_into_a_journal_that_no_file_goes_with(self):
+        other = self.folder / "other.sfs"
+        with Store(save=other, program=PROGRAM) as theirs:
+            theirs.add_layer("theirs")
+        store, before = self.opened(), self.path.read_bytes()
+        self.addCleanup(store.close, save=False)
+        store.add("w", "POINT (1 1)")
+        journal = self.folder / "town.sfs.journal"
+        kept = journal.read_bytes()
+        edits = ("add w POINT (2 2)", "@7 add w POINT (2 2)", "undo", "@7\tundo", "together 1\radd w POINT (2 2)", "layer add x")
+        for change in (lambda: self.path.write_bytes(other.read_bytes()), self.path.unlink):
+            change()
+            for line in edits:
+                with self.assertRaisesRegex(JournalError, "was changed or taken away by another program"):
+                    store.run(line)
+            self.assertEqual(len(store.show("w")), 2)
+            self.assertEqual((journal.read_bytes(), store.unsaved), (kept, 1))
+            self.path.write_bytes(before)
+        self.assertEqual(store.add("w", "POINT (2 2)"), 3)
+        store.save()
+        self.assertEqual(len(self.points()), 3)
+
+    def test_a_copy_takes_no_edits_of_others_away(self):
+        """Those of a session that is open, those in a journal, and what is no store."""
+        other = self.folder / "other.sfs"
+        with Store(other, journal=True, program=PROGRAM) as theirs:
+            theirs.add_layer("theirs")
+        text = self.folder / "thesis.txt"
+        text.write_text("ten years of work")
+        with self.opened() as store:
+            store.add("w", "POINT (1 1)")
+            with self.assertRaisesRegex(JournalError, "thesis.txt is no store: no copy takes its place"):
+                store.copy(text)
+            theirs = Store(other, journal=True, program=PROGRAM)
+            theirs.add("theirs", "POINT (1 1)")
+            with self.assertRaisesRegex(JournalError, "other.sfs is open in another session"):
+                store.copy(other)
+            theirs.close(save=False)
+            with self.assertRaisesRegex(JournalError, "other.sfs has 1 edits in its journal that are not saved"):
+                store.copy(other)
+            with Store(other, journal=True, program=PROGRAM) as theirs:
+                self.assertEqual(len(theirs.show("theirs")), 1)
+            # A new store that was never saved is nothing but its journal.
+            new = Store(self.folder / "new.sfs", journal=True, program=PROGRAM)
+            new.add_layer("theirs")
+            with self.assertRaisesRegex(JournalError, "new.sfs is open in another session"):
+                store.copy(self.folder / "new.sfs")
+            new.close()
+            # All is saved: a copy may take its place, as it does that of an older copy.
+            for name in (other, other, self.folder / "third.sfs"):
+                store.copy(name)
+        self.assertEqual(text.read_text(), "ten years of work")
+        self.assertEqual(len(self.points(other)), 2)
+        self.assertFalse((self.folder / "thesis.txt.lock").exists() or (self.folder / "third.sfs.lock").exists())
+
     def test_a_copy_is_made_of_the_very_file(self):
         """Another file stands in the place of the store's while the second program runs, and no longer."""
         aside, copy, other = (self.folder / name for name in ("aside", "copy.sfs", "other.sfs"))
@@ -258,7 +318,9 @@ class JournalThreats(TestCase):
 
     def test_a_copy_that_fails_leaves_the_older_one(self):
         copy = self.folder / "copy.sfs"
-        copy.write_text("yesterday")
+        with Store(save=copy, program=PROGRAM) as yesterday:
+            yesterday.add_layer("yesterday")
+        before = copy.read_bytes()
         with self.opened() as store:
             store.add("w", "POINT (1 1)")
             script = self.script("#!/bin/sh\ncat > /dev/null\necho 'fault save Write'\nexit 4\n")
@@ -266,7 +328,7 @@ class JournalThreats(TestCase):
                 store._program._kept.copy(str(copy), str(script))
             self.assertEqual(store.unsaved, 1)
             store.undo()
-        self.assertEqual(copy.read_text(), "yesterday")
+        self.assertEqual(copy.read_bytes(), before)
         self.assertEqual([name for name in os.listdir(self.folder) if name.startswith(".")], [])
 
     def test_a_side_car_goes_with_its_file_and_no_other(self):
@@ -303,6 +365,80 @@ class JournalThreats(TestCase):
                     store.save()
             self.assertEqual(store.unsaved, 1)
         self.assertEqual(sidecar.read(path).grid, ("1", "2", "3"))
+
+
+class Exchanged(TestCase):
+    """Somebody who may write in the folder puts a link in the place of a file as soon as that is made."""
+
+    def setUp(self):
+        super().setUp()
+        self.path = self.folder / "town.sfs"
+        with Store(self.path, journal=True, program=PROGRAM) as store:
+            store.add_layer("w", "point")
+        # What the user alone may read and write, elsewhere.
+        self.diary = self.folder.parent / f"{self.folder.name}.diary"
+        self.diary.write_text("the user's own")
+        self.addCleanup(self.diary.unlink)
+
+    @contextlib.contextmanager
+    def exchanged(self):
+        """Exchanges each file that is made beside in the body, and says how many they were."""
+        made_beside, exchanged = files.made_beside, []
+
+        def made(path, like=None):
+            before = set(os.listdir(self.folder))
+            made = made_beside(path, like)
+            for name in {*os.listdir(self.folder)} - before:
+                os.symlink(self.diary, self.folder / "link")
+                os.rename(self.folder / "link", self.folder / name)
+                exchanged.append(name)
+            return made
+
+        with mock.patch.object(files, "made_beside", made):
+            yield exchanged
+
+    def write_sidecar(self):
+        sidecar.write(str(self.path), sidecar.Sidecar(("1", "2", "3"), None, []), [files.digest(str(self.path))])
+
+    def write_timeline(self):
+        Fence(self.folder / "timeline").admit(7)
+
+    def renew_journal(self):
+        with open(path_of(str(self.path)), "wb") as journal:
+            journal.write(b"sfstore-journal 1 %s\n" % files.digest(str(self.path)).encode())
+        Store(self.path, journal=True, program=PROGRAM).close()
+
+    def shorten_batches(self):
+        (self.folder / "town.sfs.batches").write_text("[1]\n[2]\n")
+        with mock.patch("sfstore.web.batchlog._is_kept", side_effect=[False, True]):
+            BatchLog(str(self.path)).keep_whole([])
+
+    def copy(self):
+        with Store(self.path, journal=True, program=PROGRAM) as store:
+            store.copy(self.folder / "copy.sfs")
+
+    def test_nothing_is_written_to_what_the_link_leads_to(self):
+        makers = [
+            self.write_sidecar, self.write_timeline, self.renew_journal, self.shorten_batches, self.copy,
+            lambda: Styles(str(self.path)).set("w", {"width": 3}),
+            lambda: (editors := Editors(str(self.path))).keep(editors.number_of("Ann")),
+        ]  # fmt: skip
+        for number, make in enumerate(makers):
+            with self.subTest(number), self.exchanged() as exchanged:
+                with self.assertRaises((OSError, JournalError)):
+                    make()
+                self.assertEqual(len(exchanged), 1)
+            self.assertEqual(self.diary.read_text(), "the user's own")
+            self.assertEqual([name for name in os.listdir(self.folder) if ".sfstore-" in name], [])
+
+    def test_no_picture_is_drawn_over_it(self):
+        shown = console.Console(str(self.path), PROGRAM, mock.Mock())
+        self.addCleanup(shown._store.close, save=False)
+        with mock.patch("builtins.print") as printed, mock.patch("shutil.which", program_path), self.exchanged() as exchanged:
+            shown._carry_out(f"picture {self.folder}/town.svg")
+        self.assertEqual(len(exchanged), 1)
+        self.assertIn("something else stands in its place", str(printed.call_args_list))
+        self.assertEqual(self.diary.read_text(), "the user's own")
 
 
 if __name__ == "__main__":

@@ -324,25 +324,54 @@ class FailingCalls(StoreCase):
 
         self.assertGreaterEqual(side_by_side(dies, range(len(moments))), WITHIN_SAVES)
 
-    def test_a_journal_that_was_taken_away_is_synced_before_the_answer(self) -> None:
-        """Its bytes are written to a new one, which is synced before it takes its name, and the name behind that."""
-        town = Town(self.place / "folder")
+    def journal_anew(self, town: Town, variables: dict[str, str]) -> tuple[Running, int]:
+        """A session whose journal is taken away behind its first line, and how many bytes of calls were told by then. The second
+        line, which is sent here too, has it write the journal anew."""
         town.place.mkdir()
-        told = self.place / "calls"
+        told = town.place / "calls"
         with told.open("wb") as calls:
-            variables = {"LD_PRELOAD": str(self.before), "CALLS": str(calls.fileno())}
-            running = Running(town.path, self.place / "answers", variables, [calls.fileno()])
+            variables = {**variables, "LD_PRELOAD": str(self.before), "CALLS": str(calls.fileno())}
+            running = Running(town.path, town.place / "answers", variables, [calls.fileno()])
         running.send([BEGINNING[0]])
         running.wait_for(len(b"ok\n"))
         size = told.stat().st_size
         town.journal.unlink()
         running.send(["add a POINT (1 1)"])
+        return running, size
+
+    def test_a_journal_that_was_taken_away_is_synced_before_the_answer(self) -> None:
+        """Its bytes are written to a new one under its name. The first byte, without which it is none, comes last."""
+        town = Town(self.place / "folder")
+        running, size = self.journal_anew(town, {})
         running.wait_for(len(b"ok\nok 1\n"))
         running.kill()
-        beside = ".town.sfs.sfstore-journal"
-        anew = [f"write {beside}", f"sync {beside}", "rename town.sfs.journal", "sync folder"]
+        journal = "town.sfs.journal"
+        anew = [f"write {journal}", f"write {journal}", f"sync {journal}", "sync folder", f"write {journal}", f"sync {journal}"]
         # Before that the record was written to the file that has no name any more, and behind it comes the answer.
-        self.assertEqual(told.read_text()[size:].splitlines()[2:-1], anew)
+        self.assertEqual((town.place / "calls").read_text()[size:].splitlines()[2:-1], anew)
+        town.agreed([], [BEGINNING[0], "add a POINT (1 1)"], b"ok\nok 1\n")
+
+    def test_killed_while_a_journal_that_was_taken_away_is_written_anew(self) -> None:
+        """The next opening has all, or it refuses the journal; no part of it is taken for the whole."""
+        counted = Town(self.place / "counted")
+        running, size = self.journal_anew(counted, {})
+        running.wait_for(len(b"ok\nok 1\n"))
+        running.kill()
+        calls = (counted.place / "calls").read_text()
+        first, last = calls[:size].count("\n") + 3, calls.count("\n")
+        found: list[bytes] = []
+        for variable, number in itertools.product(("KILLS", "KILLS_BEHIND", "KILLS_WITHIN"), range(first, last)):
+            with self.subTest(variable, number=number):
+                town = Town(self.place / f"{variable}-{number}")
+                running, _ = self.journal_anew(town, {variable: str(number)})
+                running.process.wait(SECONDS)
+                answered = running.kill()
+                self.assertEqual(answered, b"ok\n")
+                ended = town.stored([], "--keep")
+                found.append(ended.last)
+                if ended.last != b"fault journal OtherFile\n":
+                    town.agreed([], [BEGINNING[0], "add a POINT (1 1)"], b"ok\nok 1\n")
+        self.assertEqual(set(found), {b"fault journal OtherFile\n", b""})
 
     def test_nothing_is_answered_that_was_not_synced(self) -> None:
         """The first sync of a session's edits fails: none of them is answered."""

@@ -20,6 +20,7 @@ import unittest
 from importlib.util import find_spec
 from unittest import mock
 
+from programs import path_of
 from support import FOLDER, PROGRAM, TestCase
 
 from sfstore import Store, commands, console, files, sidecar
@@ -108,8 +109,10 @@ class Typed:
 
     def __init__(self, texts):
         self.texts = list(texts)
+        self.prompts = []
 
-    def ask(self, _):
+    def ask(self, prompt):
+        self.prompts.append(prompt)
         if not self.texts:
             raise EOFError
         return self.texts.pop(0)
@@ -126,6 +129,31 @@ class Pasted(TestCase):
         with Store(load=path, program=PROGRAM) as store:
             shown = [(feature.wkt, feature.values) for feature in store.show("w")] if store.layers() else []
         return shown, " ".join(str(call.args) for call in printed.call_args_list)
+
+    def test_a_side_car_that_is_changed_meanwhile(self):
+        """Nothing is carried out by the grid of before; the next line counts by that of now."""
+        path = str(self.folder / "town.sfs")
+
+        def place(step):
+            sidecar.write(path, sidecar.Sidecar(("0", "0", step), None, []), [files.digest(path)])
+
+        class Placing(Typed):
+            """Has somebody else change the side-car in the middle."""
+
+            def ask(self, prompt):
+                if len(self.texts) == 3:
+                    place("0.1")
+                return super().ask(prompt)
+
+        with Store(path, journal=True, program=PROGRAM) as store:
+            store.add_layer("w")
+        place("1")
+        with mock.patch("builtins.print") as printed:
+            console.Console(path, PROGRAM, lambda _: Placing(["add w POINT (5 5)", "add w POINT (6 6)", "add w POINT (7 7)", "show w"])).run()
+        said = [call.args[0] for call in printed.call_args_list]
+        self.assertEqual([line for line in said if "another grid" in line], [line for line in said if "Nothing was done" in line])
+        self.assertIn("Coordinates are those of the map, whole steps of 0.1. With --steps they are counted in steps.", said)
+        self.assertIn("1 POINT (0.5 0.5)\n2 POINT (7.0 7.0)\n2 rows", said)
 
     def test_a_letter_that_looks_like_an_end_of_line_is_none(self):
         begin = "layer add w point\ncolumn add w t text\r\nadd w POINT (1 1)"
@@ -213,6 +241,12 @@ class Pasted(TestCase):
             self.assertIsNone(console._history_path())
 
 
+    def test_whom_the_system_does_not_know_has_no_history(self):
+        with mock.patch.object(os.path, "expanduser", lambda path: path), mock.patch.dict(os.environ):
+            os.environ.pop("XDG_STATE_HOME", None)
+            self.assertIsNone(console._history_path())
+
+
 class InMapUnits(TestCase):
     """What is carried out of a text over a store with a grid beside it, in this process."""
 
@@ -225,9 +259,20 @@ class InMapUnits(TestCase):
         sidecar.write(str(self.path), grid, [files.digest(str(self.path))])
 
     def said(self, *lines, in_steps=False):
+        self.typed = Typed([*lines, "quit", "n"])
         with mock.patch("builtins.print") as printed:
-            console.Console(str(self.path), PROGRAM, lambda _: Typed([*lines, "quit", "n"]), in_steps).run()
+            console.Console(str(self.path), PROGRAM, lambda _: self.typed, in_steps).run()
         return "\n".join(str(call.args[0]) for call in printed.call_args_list)
+
+    def test_a_picture_has_the_coordinates_of_its_corners(self):
+        (self.folder / "sfmap").symlink_to(path_of("sfmap"))
+        picture = self.folder / "town.svg"
+        for in_steps, words in ((False, ["<text class='corner'", ">499997.75 5600017.25</text>", ">500047.25 5599997.75</text>", ">10 map units, EPSG:25832</text>"]), (True, [">1000 grid steps</text>"])):
+            with mock.patch.dict(os.environ, {"PATH": f"{self.folder}{os.pathsep}{os.environ['PATH']}"}):
+                self.assertIn("town.svg is drawn.", self.said(f"picture {picture}", in_steps=in_steps))
+            for word in words:
+                self.assertIn(word, picture.read_text())
+            self.assertEqual("corner'" in picture.read_text(), not in_steps)
 
     def test_answers(self):
         said = self.said("show w", "box w 2", "area w 2", "length w 2")
@@ -273,6 +318,19 @@ class InMapUnits(TestCase):
         # Once it is meant, the map is larger, and what lies there is asked about no more.
         self.assertIn("ok 3\nok 4\n", self.said(far, "y", far))
         self.assertIn("ok 5\n", self.said("add w POINT (9000000 0)", in_steps=True))
+
+    def test_the_place_that_lies_far_off_is_named(self):
+        said = self.said("add w POLYGON ((500010 5600000, 500010 5600010, 5000 5600010, 500010 5600000))", "n", "show w")
+        self.assertIn("(5000.00 5600010.00) lies far off the map. Is it meant? [y/n] ", self.typed.prompts)
+        self.assertIn("2 rows", said)
+
+    def test_tools_that_lead_far_off_the_map_are_asked_about(self):
+        corner = "add w POLYGON ((500010 5600000, 500010 5600010, 500000 5600010, 500010 5600000))"
+        far = "node 500010 5600000 to 5000100 5600000"
+        said = self.said(corner, far, "n", "get w 3", far, "y", "get w 3")
+        self.assertEqual(self.typed.prompts.count("(5000100.00 5600000.00) lies far off the map. Is it meant? [y/n] "), 2)
+        self.assertIn("Nothing was done.\n3 POLYGON ((500010.00 5600000.00,", said)
+        self.assertIn("ok: w 2, w 3\n3 POLYGON ((5000100.00 5600000.00,", said)
 
     def test_a_shared_corner_is_moved(self):
         said = self.said(
@@ -417,6 +475,47 @@ class InMapUnits(TestCase):
             "1 feature of p would be changed.\nok: 1 feature, 1 step\n1\n1 row\np has no overlap, no gap, and nothing that near.\n",
         ):
             self.assertIn(words, said)
+
+    def test_a_refusal_names_the_rule_and_what_would_break_it(self):
+        said = self.said(
+            "column add w use text",
+            "rule add uses one-of w use 'field','road', E'\\x1b[2J'",
+            "set w 1 use 'sea'",
+            "together 2",
+            "set w 1 use 'road'",
+            "set w 2 use '\x9b2J'",
+            "rule add ruled required w use",
+            "rule add apart never w intersects w",
+            "add w POINT (500045 5600015)",
+        )
+        for words in (
+            "Refused (37 RuleBroken): a rule would be broken.\n  w 1 would have another use than 'field', 'road', E'\\x1b[2J' (rule uses).",
+            "  w 2 would have another use than 'field', 'road', E'\\x1b[2J' (rule uses).",
+            "  w 1 would have no use (rule ruled).",
+            "  w 1 and w 3 would meet (rule apart).",
+        ):
+            self.assertIn(words, said)
+
+    def test_a_rule_by_a_distance_is_shown_and_broken_in_units_of_the_map(self):
+        said = self.said(
+            "rule add spaced never w near 2.5 w",
+            "rule add fine never w near 0.0000001 w",
+            "rules",
+            "add w POINT (500046.5 5600017)",
+            "rule add paired each w near 40 some w",
+            "rule add alone each w near 20 some w",
+            "join w near 40 w",
+        )
+        for words in (
+            "ok\nThat line can't be read: the distance 0.0000001 is no whole number of thousandths of a grid step; 0 and 0.00001 are\n",
+            "\nspaced never w near 2.5 w\n1 row\n",
+            "  w 1 and w 3 would lie within 2.5 of one another (rule spaced).",
+            "  w 1 would lie within 20 of none of w (rule alone).",
+            "\n1 2\n2 1\n2 rows",
+        ):
+            self.assertIn(words, said)
+        with Store(self.path, journal=True, program=PROGRAM) as store:
+            self.assertEqual([rule.line for rule in store.rules()], ["spaced never w near 250 w", "paired each w near 4000 some w"])
 
     def test_a_refusal_names_its_place_on_the_map(self):
         said = self.said("add w POLYGON ((500000 5600000, 500010 5600010, 500010 5600000, 500000 5600010, 500000 5600000))")
@@ -866,6 +965,17 @@ class Words(TestCase):
             ("column drop wells l", ["label"]),
             ("column add wells x ", ["int", "text", "decimal", "bool", "date", "datetime"]),
             ("query wells to", ["touches"]),
+            ("query wells ne", ["near"]),
+            ("query wells near ", []),
+            ("query wells near 2 POL", ["POLYGON ("]),
+            ("join wells n", ["near"]),
+            ("join wells touches we", ["wells"]),
+            ("join wells near ", []),
+            ("join wells near 2 we", ["wells"]),
+            ("rule add apart never wells ne", ["near"]),
+            ("rule add apart never wells near ", []),
+            ("rule add apart never wells near 2 we", ["wells"]),
+            ("rule add served each wells near 2 ", ["some"]),
             ("add wells POL", ["POLYGON ("]),
             ("help qu", ["query", "quit"]),
             ("undo ", []),
@@ -907,7 +1017,8 @@ class Words(TestCase):
         lines.insert(lines.index("column add wells depth int"), "column add wells label text")
         required = "rule add labelled required wells label"
         place = lines.index(required)
-        lines[place : place + 1] = ["set wells 2 label 'the second'", required, "rule drop labelled", "rule drop labels"]
+        lines[place : place + 1] = ["set wells 2 label 'new'", required, "rule drop labelled", "rule drop labels"]
+        lines += [f"rule drop {name}" for name in ("ages", "depths", "spaced", "reached")]
         lines += ["unset wells 1 label", "delete wells 1", "undo", "redo", "column drop wells depth"]
         lines += ["layer rename roads streets", "layer drop wells"]
         with Store(PROGRAM) as store:

@@ -66,6 +66,8 @@ class Language(TestCase):
                     store.run("rule add apart never wells equals wells")
                 if " required " in command.usage:
                     store.run("set wells 1 label 'a'")
+                if " one-of " in command.usage:
+                    store.run("unset wells 1 label")
                 store.run("layer add before any")
                 try:
                     store.run(command.example + "\rset wells 1 label 'a'\rset wells 1 label 'b'" * (command.word == "together"))

@@ -128,15 +128,34 @@ class Lines(unittest.TestCase):
         for line, wanted in {"query w near": "query w near", "query w near x POINT (500000 5600000)": "query w near x POINT (0 0)"}.items():
             self.assertEqual(CENTIMETRES.line(line), wanted)
 
+    def test_distances_of_two_layers(self) -> None:
+        for asked, steps in {
+            "join w near 2.5 p": "join w near 250 p",
+            "join near near 2.5 near 7": "join near near 250 near 7",
+            "@7 rule add  far never w\tnear 2.5 w": "@7 rule add  far never w\tnear 250 w",
+            "rule add fed each w near 0.01 some p": "rule add fed each w near 1 some p",
+        }.items():
+            self.assertEqual(CENTIMETRES.line(asked), steps)
+            self.assertEqual(CENTIMETRES.line(CENTIMETRES.shown_line(steps)), steps)
+        with self.assertRaisesRegex(NoPlace, "^the distance 0.000015 is no whole number of thousandths"):
+            CENTIMETRES.line("join w near 0.000015 p")
+        # A layer, a column or a rule may have this name.
+        for line in ("join w touches near", "rule add near unique near near", "rule add near never near within near", "join w near", "reach w near 250"):
+            self.assertEqual(CENTIMETRES.line(line), line)
+
     def test_lines_without(self) -> None:
         others = ["", "add", "add w", "vertex move w 1 0 0", "vertex remove w 500000 0 0 2", "set w 1 a 'POINT (500000 5600000)'", "addhex w 0101"]
         given = {"add", "check", "replace", "distance", "nearest", "relate", "match", "query"}
-        examples = [command.example for command in COMMANDS if command.word not in given and not command.example.startswith("vertex")]
+        words = [command.usage.split(" ") for command in COMMANDS]
+        examples = [command.example for command, usage in zip(COMMANDS, words) if usage[0] not in {*given, "vertex"} and "near" not in usage]
         for line in [*others, *examples]:
             self.assertEqual(CENTIMETRES.line(line), line)
 
     def test_rows(self) -> None:
         for line, row, wanted in [
+            ("rules", "far never w near 250 w", "far never w near 2.5 w"),
+            ("rules", "fed each w near 1.5 some p", "fed each w near 0.015 some p"),
+            ("rules", "uses one-of near near 'near 250'", "uses one-of near near 'near 250'"),
             ("show w", "3 POINT (4500 -1) a=7 t='(1 2)'", "3 POINT (500045.00 5599999.99) a=7 t='(1 2)'"),
             ("@2 get w 1", "1 MULTIPOLYGON (((0 0, 9 0, 9 9, 0 0)))", "1 MULTIPOLYGON (((500000.00 5600000.00, 500000.09 5600000.00, 500000.09 5600000.09, 500000.00 5600000.00)))"),
             ("box w 1", "0 -3 10 7", "500000.00 5599999.97 500000.10 5600000.07"),

@@ -14,6 +14,9 @@ from sfstore import Refused, Rule, Store
 SESSIONS = 2_000
 LINES = 24
 ASKS = ("intersects", "overlaps", "within", "touches", "disjoint", "contains", "T********", "T*F**F***", "FF*FF****", "t*******f")
+# Distances between places of the small part of the grid, some of them a little below or above the root of a sum of squares.
+NEAR = ("near 0", "near 1", "near 1.000", "near 1.414", "near 1.415", "near 2.5", "near 02.236", "near 2.237", "near 4294967295.999")
+NO_DISTANCES = ("near x", "near -1", "near 1.0001", "near 4294967296", "near 1.")
 
 
 class Lines:
@@ -28,7 +31,8 @@ class Lines:
     def _rule(self) -> str:
         form, some = self._random.choice([("never", ""), ("never", ""), ("each", "some ")])
         name = self._random.choice(["a", "b", "c", "9"])
-        return f"rule add {name} {form} {self._layer()} {self._random.choice(ASKS)} {some}{self._layer()}"
+        asks = self._random.choices([ASKS, NEAR, NO_DISTANCES], [30, 15, 1])[0]
+        return f"rule add {name} {form} {self._layer()} {self._random.choice(asks)} {some}{self._layer()}"
 
     def _shape(self) -> str:
         x, y = self._random.randrange(6), self._random.randrange(6)
@@ -76,7 +80,7 @@ class Lines:
 
 
 # How answers begin that come often enough to be tested at all.
-OFTEN = ("refused 37 RuleBroken", "refused 36 NotYours", "refused 40 RuleExists", "refused 39 NoRule", "refused 41 LayerRuled")
+OFTEN = ("refused 37 RuleBroken", "refused 36 NotYours", "refused 40 RuleExists", "refused 39 NoRule", "refused 41 LayerRuled", "refused 31 BadCommand")
 
 
 class AgainstAModel(RulesCase):
@@ -120,9 +124,23 @@ class Lived(RulesCase):
 
     def test_names_that_no_line_can_say(self):
         with Store(PROGRAM) as store:
-            for words in (("a b", "never", "p", "equals", "p"), ("a", "always", "p", "equals", "p"), ("a", "never", "p", "near", "p")):
+            asks = ("near", "near 2.0001", "near -1", "near 4294967296", "near 1e3", "near  2", "near 2 ")
+            for words in (("a b", "never", "p", "equals", "p"), ("a", "always", "p", "equals", "p"), *(("a", "never", "p", ask, "p") for ask in asks)):
                 with self.assertRaises(ValueError):
                     store.add_rule(*words)
+
+    def test_features_that_are_near_one_another(self):
+        with Store(PROGRAM) as store:
+            store.add_layer("wells", "point")
+            for x in (0, 3, 10):
+                store.add("wells", f"POINT ({x} 0)")
+            self.assertEqual(list(store.join("wells", "near 3", "wells")), [(1, 2), (2, 1)])
+            self.assertEqual(store.join_one("wells", "near 7", "wells", 2), [1, 3])
+            store.add_rule("spaced", "never", "wells", "near 2.999", "wells")
+            self.assertEqual(store.rules(), [Rule("spaced", "never", "wells", "near 2.999", "wells")])
+            with self.assertRaises(Refused) as caught:
+                store.add("wells", "POINT (11 2)")
+            self.assertEqual((caught.exception.rule, caught.exception.ids), ("spaced", [3, 4]))
 
 
 if __name__ == "__main__":

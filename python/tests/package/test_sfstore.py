@@ -6,6 +6,7 @@
 from __future__ import annotations
 
 import doctest
+import importlib
 import os
 import pickle
 import signal
@@ -1149,9 +1150,17 @@ class GeoInterfaces(TestCase):
                 Feature(1, text, {}).__geo_interface__
 
 
+def modules_with_examples():
+    """The modules of the package whose docstrings have examples."""
+    top = Path(sfstore.__file__).parent
+    for path in sorted(top.rglob("*.py")):
+        parts = path.relative_to(top).with_suffix("").parts
+        if path.name != "__init__.py" and ">>> " in path.read_text(encoding="utf-8"):
+            yield importlib.import_module(".".join(("sfstore", *parts)))
+
+
 def load_tests(loader, tests, pattern):
-    modules = (sfstore.editor, sfstore.group, sfstore.groups, sfstore.language, sfstore.results, sfstore.store, sfstore.wkt)
-    for module in modules:
+    for module in modules_with_examples():
         tests.addTests(doctest.DocTestSuite(module, extraglobs=vars(sfstore)))
     return tests
 

@@ -10,7 +10,7 @@ from support import PROGRAM, TestCase
 
 from rules_cases import RulesCase  # isort: skip
 from sfstore import Refused, Store
-from sfstore.results import ValueRule
+from sfstore.rules import ValueRule
 
 SESSIONS = 2_000
 LINES = 30
@@ -34,9 +34,21 @@ class Lines:
 
     def _rule(self) -> str:
         name = self._random.choice(["a", "b", "c", "9"])
-        demand = self._random.choice(["unique", "unique", "required"])
+        demand = self._random.choice(["unique", "unique", "required", "one-of", "one-of", "range", "range"])
         between = f"rule add {name} never {self._layer()} equals {self._layer()}"
-        return self._random.choice([f"rule add {name} {demand} {self._layer()} {self._column()}"] * 5 + [between])
+        column = self._column()
+        named = self._named(demand, column)
+        return self._random.choice([f"rule add {name} {demand} {self._layer()} {column}{named}"] * 5 + [between])
+
+    def _named(self, demand: str, column: str) -> str:
+        """The values that a rule names: mostly of the column's type."""
+        column = column if self._random.random() < 0.9 else self._column()
+        if demand == "one-of":
+            return " " + ", ".join(self._value(column) for _ in range(self._random.randrange(1, 5)))
+        if demand == "range":
+            first, last = self._value(column), self._value(column)
+            return " " + self._random.choice([f"{first} to {last}", f"{first} to {last}", f"{first} to", f"to {last}"])
+        return ""
 
     def _edit(self, which: str | None = None) -> str:
         layer, number, column = self._layer(), which or self._random.randrange(1, 7), self._column()
@@ -92,7 +104,7 @@ class Lines:
 
 
 # How answers begin that come often enough to be tested at all.
-OFTEN = ("refused 37 RuleBroken", "refused 22 NoColumn", "refused 40 RuleExists", "refused 39 NoRule", "refused 41 LayerRuled")
+OFTEN = ("refused 37 RuleBroken", "refused 22 NoColumn", "refused 40 RuleExists", "refused 39 NoRule", "refused 42 ColumnRuled", "refused 24 WrongValue")
 
 
 class AgainstAModel(RulesCase):
@@ -172,7 +184,7 @@ class Kept(TestCase):
             self.assertEqual(store.rules(), rules)
             with self.assertRaises(Refused) as caught:
                 store.drop_column("parcels", "n")
-            self.assertEqual(caught.exception.number, 41)
+            self.assertEqual(caught.exception.number, 42)
             store.drop_rule("numbered")
             store.drop_rule("numbers")
             store.drop_column("parcels", "n")

@@ -372,14 +372,14 @@ class Files(TestCase):
 
     def test_files_taken_apart(self) -> None:
         examples = self.examples()
-        self.assertEqual(len(examples), 3)
+        self.assertEqual(len(examples), 4)
         for lines, wanted in examples:
             path = self.folder / "saved.sfs"
             answers(lines, f"--save={path}")
             self.assertEqual(path.read_bytes().hex(), wanted.hex())
 
     def test_each_damage_is_refused_at_its_place(self) -> None:
-        _, (_, sound), _ = self.examples()
+        _, (_, sound), *_ = self.examples()
         places = {"type": 30, "mantissa": 104, "places": 112, "bool": 115, "date": 118, "datetime": 124, "milliseconds": 128}
         # Where bytes are put, which ones, and where the fault is then; none where the file is one still.
         changes = [
@@ -405,6 +405,32 @@ class Files(TestCase):
             if fault is not None:
                 self.assertEqual(storefile.field_at(changed, fault), names[fault])
         for end in range(67, len(sound)):
+            path.write_bytes(sound[:end])
+            self.assertEqual(loaded(path), f"fault load BadFile {end} 7")
+
+    def test_each_damage_of_a_rule_is_refused_at_its_place(self) -> None:
+        *_, (_, sound) = self.examples()
+        # Where bytes are put, which ones, and the fault: its place, its number and the name of the field there.
+        changes = [
+            (55, b"\x09", 55, 34, "form of a rule"),
+            (62, b"\x03usf", 62, 22, "column of a rule"),
+            *((66, count.to_bytes(2, "big"), 66, 24, "number of values of a rule") for count in (0, 1_001)),
+            *((68, bytes([kind]), 68, 24, "type of a value of a rule") for kind in (0, 7, 255)),
+            *((105, bytes([ends]), 105, 34, "ends of a rule") for ends in (0, 4)),
+            # A decimal that is whole, one with a zero at its end, an int in the place of a text.
+            (106, bytes.fromhex("03000000000000000500"), 107, 24, "decimal of a value"),
+            (106, bytes.fromhex("03000000000000003201"), 107, 24, "decimal of a value"),
+            (68, bytes.fromhex("010000000000000000"), 68, 24, "type of a value of a rule"),
+            # The first end behind the last.
+            (117, bytes(8), 105, 24, "ends of a rule"),
+        ]
+        path = self.folder / "changed.sfs"
+        for at, put, place, number, name in changes:
+            changed = sound[:at] + put + sound[at + len(put) :]
+            path.write_bytes(changed)
+            self.assertEqual(loaded(path), f"fault load BadFile {place} {number}", (at, put))
+            self.assertEqual(storefile.field_at(changed, place), name)
+        for end in range(50, len(sound)):
             path.write_bytes(sound[:end])
             self.assertEqual(loaded(path), f"fault load BadFile {end} 7")
 

@@ -15,6 +15,13 @@ from web_support import TOWN, WebCase
 from sfstore import Store, files, sidecar
 
 DAY = TOWN.parent / "day.txt"
+# Whether the middle of an element is within another one.
+IS_SEEN = """
+const [inner, outer] = [...arguments].map((element) => element.getBoundingClientRect());
+const [x, y] = [(inner.left + inner.right) / 2, (inner.top + inner.bottom) / 2];
+return x > outer.left && x < outer.right && y > outer.top && y < outer.bottom;
+"""
+METRES = 'PROJCS["x",GEOGCS["y",UNIT["degree",0.0174532925199433]],UNIT["metre",1]]'
 
 # From now on what is told of a feature comes late.
 LATE = """
@@ -382,11 +389,9 @@ class Editing(PageCase):
         line = "add parcels POLYGON ((10 10, 90 10, 90 20, 10 20, 10 10))"
         page.type(line)
         page.logged(line, "refused 37 RuleBroken")
-        page.until(lambda: page.text("#refusal h2") == "Refused (37 RuleBroken): a rule would be broken.")
-        self.assertRegex(
-            page.text("#refusal .reason"),
-            r"^The rule is apart never parcels T\*{8} parcels; parcels [0-9]+ and parcels 201 would break it\.$",
-        )
+        page.until(lambda: re.fullmatch("Refused: parcels [0-9]+ and parcels 201 would overlap; parcels 201 is the new one.", page.text("#refusal h2")))
+        self.assertEqual(page.text("#refusal .reason"), "Draw one of them elsewhere.")
+        self.assertEqual(page.text("#refusal .help"), "The rule is apart never parcels T******** parcels (37 RuleBroken).")
         [broken] = page.all("#overlay .breaks .refused")
         self.assertTrue(broken.get_attribute("d"))
         self.assertTrue(page.one("#overlay > .refused").get_attribute("d"))
@@ -492,11 +497,6 @@ class Editing(PageCase):
             page.one("#value-c_decimal").send_keys(keys.CONTROL + "a" + keys.NULL, typed, keys.ENTER)
             page.logged(f"set wells 1 c_decimal {typed}", "ok")
             self.shows(page, "decimal", shown)
-        for typed in (".5", "1,5", "0.0000000000000000001"):
-            page.one("#value-c_decimal").send_keys(keys.CONTROL + "a" + keys.NULL, typed, keys.ENTER)
-            page.logged(f"set wells 1 c_decimal {typed}")
-            page.until(lambda: "12.5, true, 2024-02-29" in page.one("#refusal").text)
-            self.shows(page, "decimal", "9007199254740993")
         page.pick("#value-c_bool", "true")
         page.logged("set wells 1 c_bool true", "ok")
         page.pick("#value-c_bool", "false")
@@ -527,6 +527,113 @@ class Editing(PageCase):
         self.assertFalse(page.script("return document.getElementById('value-c_date').validity.badInput"))
         row = str(self.serving.log_in("Ben").line("get wells 1"))
         self.assertIn(" c_decimal=9007199254740993 c_datetime=9999-12-31T23:59:59.999Z", row)
+
+    def test_what_is_no_number_is_said_before_it_is_sent(self):
+        page = self.open()
+        page.type("column add wells c_decimal decimal", "ok")
+        page.choose((450, 150), "wells 1, a point")
+        page.until(lambda: page.all("#value-c_decimal"))
+        keys, version = page.keys, self.serving.log_in("Ben").version()
+        whole = "depth takes whole numbers, from -9223372036854775808 to 9223372036854775807: nothing was sent."
+        parts = "c_decimal takes numbers, such as 812.50, with 18 digits behind the point at most: nothing was sent."
+        for column, shown, words, wrong in (
+            ("depth", "12", whole, ("12abc", "1.5", "9223372036854775808", "-9223372036854775809", "1 2", "9" * 400)),
+            ("c_decimal", "", parts, (".5", "1.", "1,5", "1e5", "abc", "0.0000000000000000001", "9223372036854775808", "922337203685477580.81")),
+        ):
+            field = page.one(f"#value-{column}")
+            for typed in wrong:
+                field.send_keys(keys.CONTROL + "a" + keys.NULL, typed, keys.ENTER)
+                page.logged(f"set wells 1 {column} {typed}", words)
+                self.assertEqual((page.text("#refusal h2"), field.get_property("value")), (words, shown))
+        self.assertEqual(self.serving.log_in("Ben").version(), version)
+        for column, right in (("depth", ("-9223372036854775808", "+9223372036854775807", "007", "-0")), ("c_decimal", ("-922337203685477580.8", "+1.50", "0.1000000000000000000000", "00012"))):
+            for typed in right:
+                page.one(f"#value-{column}").send_keys(keys.CONTROL + "a" + keys.NULL, typed, keys.ENTER)
+                page.logged(f"set wells 1 {column} {typed}", "ok")
+
+    def test_keys_on_a_closed_list_send_the_value_where_they_end(self):
+        page = self.open()
+        page.type("rule add labels one-of wells label 'the old one', 'dry in August', 'town well'", "ok")
+        page.choose((450, 150), "wells 1, a point")
+        page.until(lambda: page.one("#value-label").tag_name == "select")
+        keys, count = page.keys, len(page.log())
+
+        def sent():
+            return [line for line, _ in page.log()[count:]]
+
+        # Passed over, and back where it was: nothing.
+        page.one("#value-label").send_keys(keys.ARROW_DOWN, keys.ARROW_DOWN, keys.ARROW_UP, keys.ARROW_UP, keys.TAB)
+        page.one("#value-label").send_keys(keys.ARROW_DOWN, keys.ARROW_DOWN)
+        self.assertEqual((sent(), page.one("#value-label").get_property("value")), ([], "town well"))
+        page.send(keys.ENTER)
+        page.logged("set wells 1 label 'town well'", "ok")
+        page.one("#value-label").send_keys(keys.HOME, keys.ARROW_DOWN, keys.ARROW_DOWN, keys.TAB)
+        page.logged("set wells 1 label 'dry in August'", "ok")
+        # By the mouse at once.
+        page.script("document.getElementById('value-label').dispatchEvent(new PointerEvent('pointerdown'))")
+        page.pick("#value-label", "the old one")
+        page.logged("set wells 1 label 'the old one'", "ok")
+        self.assertEqual(len(sent()), 3)
+        # So it is with the style of a layer, which all see.
+        page.use("#layers li:nth-child(3) button.quiet")
+        page.one("#style-symbol").send_keys(keys.ARROW_DOWN, keys.ARROW_DOWN)
+        self.assertEqual(self.serving.call("/styles")["styles"], {})
+        page.send(keys.TAB)
+        page.until(lambda: self.serving.call("/styles")["styles"].get("wells", {}).get("symbol") == "triangle")
+
+    def test_the_browser_asks_before_what_is_typed_is_gone(self):
+        page = self.open()
+        page.choose((450, 150), "wells 1, a point")
+        asks = "const leaving = new Event('beforeunload', { cancelable: true }); dispatchEvent(leaving); return leaving.defaultPrevented"
+        self.assertFalse(page.script(asks))
+        keys = page.keys
+        for field, rest in (("#value-depth", "3"), ("#value-label", "x"), ("#wkt", " "), ("#line-text", "undo")):
+            before = page.one(field).get_property("value")
+            page.one(field).send_keys(rest)
+            self.assertTrue(page.script(asks), field)
+            page.script("const [field, value] = arguments; field.value = value", page.one(field), before)
+            self.assertFalse(page.script(asks), field)
+        page.one("#value-depth").send_keys(keys.CONTROL + "a" + keys.NULL, "77", keys.ENTER)
+        page.logged("set wells 1 depth 77", "ok")
+        self.assertFalse(page.script(asks))
+        page.one("#line-text").send_keys("together 2", keys.ENTER)
+        self.assertTrue(page.script(asks))
+        page.one("#line-text").send_keys(keys.ESCAPE)
+        self.assertFalse(page.script(asks))
+        page.use("#layers li:nth-child(3) button.quiet")
+        for summary in page.all("#layer-editor summary, #layer-making summary"):
+            page.script("arguments[0].parentElement.open = true", summary)
+        self.assertFalse(page.script(asks))
+        for field in ("#layer-name", "#column-name", "#layer-new-name"):
+            page.one(field).send_keys("x")
+            self.assertTrue(page.script(asks), field)
+            page.one(field).send_keys(keys.BACKSPACE)
+            self.assertFalse(page.script(asks), field)
+        for tool, is_asked in (("line", True), ("polygon", True), ("measure", False)):
+            page.tool(tool)
+            page.click((700, 400))
+            self.assertEqual(page.script(asks), is_asked, tool)
+            page.press(keys.ESCAPE)
+            self.assertFalse(page.script(asks), tool)
+
+    def test_values_that_rules_allow_are_chosen(self):
+        page = self.open()
+        page.type("rule add labels one-of wells label 'the old one', 'dry in August', 'town well'", "ok")
+        page.type("rule add depths one-of wells depth 12, 3, 31, 8", "ok")
+        page.type("rule add more one-of wells depth 8, 12, 31, 3, 9", "ok")
+        page.type("rule add wide range wells depth 2 to", "ok")
+        page.choose((450, 150), "wells 1, a point")
+        chosen = "const list = document.getElementById(arguments[0]); return [list.value, ...[...list.options].map((each) => each.value)]"
+        self.assertEqual(page.script(chosen, "value-label"), ["the old one", "", "the old one", "dry in August", "town well"])
+        # Those that all rules allow.
+        self.assertEqual(page.script(chosen, "value-depth"), ["12", "", "12", "3", "31", "8"])
+        self.assertEqual(page.one("#value-depth").get_property("title"), "The rule allows 2 to")
+        for value, line in (("town well", "set wells 1 label 'town well'"), ("", "unset wells 1 label")):
+            page.pick("#value-label", value)
+            page.logged(line, "ok")
+        page.pick("#value-depth", "31")
+        page.logged("set wells 1 depth 31", "ok")
+        page.type("get wells 1", "rows 1\n1 POINT (450 150) depth=31")
 
     def shows(self, page, column_type, value):
         page.until(lambda: page.one(f"#value-c_{column_type}").get_property("value") == value)
@@ -600,8 +707,8 @@ class Editing(PageCase):
 class Places(PageCase):
     """Where on the map one is: coordinates, a place to go to, the scale, and what is measured."""
 
-    def bring_grid(self):
-        grid = sidecar.Sidecar(("500000", "5600000", "0.1"), sidecar.Crs("EPSG", "25832", ""), [])
+    def bring_grid(self, wkt=""):
+        grid = sidecar.Sidecar(("500000", "5600000", "0.1"), sidecar.Crs("EPSG", "25832", wkt), [])
         sidecar.write(str(self.path), grid, [files.digest(str(self.path))])
 
     def test_in_steps(self):
@@ -656,20 +763,46 @@ class Places(PageCase):
         self.assertTrue(30 < width < 150, width)
 
     def test_what_is_measured(self):
-        self.bring_grid()
+        self.bring_grid(METRES)
         page = self.open()
         page.use("#fit")
         page.choose((450, 150), "wells 1, a point")
         page.choose((400, 100), "parcels 3, a polygon")
-        self.assertEqual(page.text("#measures"), "Area 540, Length 96")
+        self.assertEqual(page.text("#measures"), "Area 540 m², Length 96 m")
         page.tool("measure")
         page.click((360, 0))
         page.click((540, 0))
-        page.until(lambda: page.text("#status") == "Length 18")
+        page.until(lambda: page.text("#status") == "Length 18 m")
         page.click((540, 300))
-        page.until(lambda: page.text("#status") == "Length 48, area inside 270")
+        page.until(lambda: page.text("#status") == "Length 48 m, area inside 270 m²")
         page.press(page.keys.ENTER)
-        self.assertEqual(page.text("#status"), "Length 48, area inside 270")
+        self.assertEqual(page.text("#status"), "Length 48 m, area inside 270 m²")
+        self.assertRegex(page.text("#bar"), "^[0-9,.]+ m$")
+
+    def test_in_feet_and_in_degrees(self):
+        self.bring_grid('PROJCS["x",GEOGCS["y",UNIT["degree",0.0174532925199433]],UNIT["US survey foot",0.304800609601219]]')
+        page = self.open()
+        page.use("#fit")
+        page.choose((400, 100), "parcels 3, a polygon")
+        self.assertEqual(page.text("#measures"), "Area 540 US ft², Length 96 US ft")
+        self.serving.end()
+        self.bring_grid('GEOGCS["y",UNIT["degree",0.0174532925199433]]')
+        page = self.open("Ben")
+        page.use("#fit")
+        page.choose((400, 100), "parcels 3, a polygon")
+        self.assertEqual(page.text("#measures"), "Area 540, Length 96 °")
+
+    def test_a_sheet_has_the_coordinates_of_its_corners(self):
+        self.bring_grid(METRES)
+        page = self.open()
+        page.script("dispatchEvent(new Event('beforeprint'))")
+        corners = page.script("return [...document.querySelectorAll('#furniture .corner')].map(e => e.textContent)")
+        self.assertEqual(len(corners), 2)
+        # The town goes from (500000 5600000) to (500504 5600279).
+        (left, top), (right, bottom) = (map(float, words.split(" ")) for words in corners)
+        self.assertTrue(left < 500000 < 500504 < right and bottom < 5600000 < 5600279 < top, corners)
+        self.assertRegex(page.text("#furniture"), "^[0-9,.]+ mN")
+        page.script("dispatchEvent(new Event('afterprint'))")
 
     def test_lines_and_texts_are_those_of_the_map(self):
         self.bring_grid()
@@ -691,6 +824,39 @@ class Places(PageCase):
         other.type("get wells 5")
         other.logged("get wells 5", "rows 1\n5 POINT (500001.0 5600001.0)")
 
+    def test_what_lies_far_off_the_map_is_asked_about(self):
+        self.bring_grid()
+        page = self.open()
+        far, question = "add wells POINT (5000010 5600001)", "(5000010.0 5600001.0) lies far off the map. Is it meant?"
+
+        def asked(deed):
+            page.until(lambda: page.one("#sure").get_property("open"))
+            self.assertEqual((page.text("#sure-words"), page.text("#sure-yes")), (question, "It is meant"))
+            deed()
+            page.until(lambda: not page.one("#sure").get_property("open"))
+
+        # By keys alone: Escape is no.
+        page.press(far, page.keys.ENTER, at="#line-text")
+        asked(lambda: page.send(page.keys.ESCAPE))
+        page.logged(far, "Nothing was done: it was not meant.")
+        page.type("get wells 4", "rows 1\n4 POINT (500450.0 5600015.0) depth=8")
+        # What was typed is not lost, and the field has the focus.
+        page.send(page.keys.ARROW_UP, page.keys.ARROW_UP)
+        self.assertEqual(page.one("#line-text").get_property("value"), far)
+        page.send(page.keys.ENTER)
+        asked(lambda: page.send(page.keys.ENTER))
+        page.logged(far, "ok 5")
+        page.use("#undo")
+        page.logged("undo", "ok")
+        page.choose((450, 150), "wells 1, a point")
+        text = page.one("#wkt")
+        text.clear()
+        text.send_keys("POINT (5000010 5600001)")
+        page.use("#replace")
+        asked(lambda: page.use("#sure-no"))
+        page.logged("replace wells 1 POINT (5000010 5600001)", "Nothing was done: it was not meant.")
+        self.assertEqual(page.one("#wkt").get_property("value"), "POINT (5000010 5600001)")
+
     def test_a_vertex_is_moved_and_inserted_by_keys(self):
         self.bring_grid()
         page = self.open()
@@ -702,6 +868,72 @@ class Places(PageCase):
         page.until(lambda: "POLYGON ((500018.0 5600000.0, 500027.0 5600000.0, " in page.one("#wkt").get_property("value"))
         page.send(page.keys.ARROW_DOWN, page.keys.ENTER)
         page.until(lambda: re.fullmatch(r"vertex move parcels 2 0 0 [01] 5000[0-9.]+ 5599999.9", page.last()))
+
+    def test_a_point_is_shown_with_what_is_around_it(self):
+        self.bring_grid(METRES)
+        page = self.open()
+        page.choose((450, 150), "wells 1, a point")
+        page.use("#go")
+        self.assertEqual(page.text("#scale"), "1:500")
+        # Who has looked more closely goes on so.
+        page.press("+")
+        page.until(lambda: page.text("#scale") == "1:333")
+        page.use("#go")
+        self.assertEqual(page.text("#scale"), "1:333")
+
+    def test_what_is_refused_out_of_sight_is_shown(self):
+        page = self.open()
+        page.type("rule add apart never parcels T******** parcels", "ok")
+        for line, shown in (
+            ("add parcels POLYGON ((0 0, 30 30, 30 0, 0 30, 0 0))", ".fault-mark"),
+            ("add parcels POLYGON ((10 10, 90 10, 90 20, 10 20, 10 10))", "#overlay .breaks .refused"),
+        ):
+            self.go(page, "1000000 1000000")
+            page.until(lambda: page.text("#status") == "0 features in the window, all drawn.")
+            page.type(line)
+            page.until(lambda: page.all(shown) and page.script(IS_SEEN, page.one(shown), page.one("#map")))
+            page.use("#refusal button")
+
+    def test_a_rule_by_a_distance_is_told_in_units_of_the_map(self):
+        self.bring_grid()
+        page = self.open()
+        page.type("rule add spaced never wells near 2.5 wells", "ok")
+        # 3 metres and 4 metres are 5, and 1.5 and 2 are 2.5.
+        page.type("add wells POINT (500042 5600011)", "ok 5")
+        line = "add wells POINT (500043.5 5600013)"
+        page.type(line)
+        page.logged(line, "refused 37 RuleBroken")
+        said = "Refused: wells 1 and wells 6 would lie within 2.5 of one another; wells 6 is the new one."
+        page.until(lambda: page.text("#refusal h2") == said)
+        self.assertEqual(page.text("#refusal .reason"), "Draw one of them elsewhere.")
+        self.assertEqual(page.text("#refusal .help"), "The rule is spaced never wells near 2.5 wells (37 RuleBroken).")
+        [broken] = page.all("#overlay .breaks .refused")
+        self.assertTrue(broken.get_attribute("d"))
+        self.assertTrue(page.one("#overlay > .refused").get_attribute("d"))
+        page.use("#refusal button")
+        self.assertEqual(page.all("#overlay .breaks .refused"), [])
+
+    def test_what_has_nothing_near_it_is_told(self):
+        page = self.open()
+        page.type("rule add served each wells near 500.25 some parcels", "ok")
+        line = "add wells POINT (100000 100000)"
+        page.type(line)
+        page.logged(line, "refused 37 RuleBroken")
+        page.until(lambda: page.text("#refusal h2") == "Refused: wells 5 would lie within 500.25 of none of parcels; wells 5 is the new one.")
+        self.assertEqual(page.text("#refusal .reason"), "Draw it so that it does, or draw what it needs first.")
+        self.assertEqual(page.text("#refusal .help"), "The rule is served each wells near 500.250 some parcels (37 RuleBroken).")
+        self.assertEqual(page.all("#overlay .breaks .refused"), [])
+        self.assertTrue(page.one("#overlay > .refused").get_attribute("d"))
+
+    def test_what_was_found_is_seen(self):
+        page = self.open()
+        self.addCleanup(self.driver.set_window_size, 1300, 900)
+        page.choose((270, 150), "parcels 2, a polygon")
+        self.driver.set_window_size(1280, 720)
+        page.use("#ask-chosen")
+        page.use("#ask [type=submit]")
+        page.until(lambda: page.text("#hits-title") == "6 found")
+        self.assertTrue(page.script(IS_SEEN, page.one("#hits"), page.one("aside")))
 
     def test_a_refusal_names_its_place_on_the_map(self):
         self.bring_grid()
@@ -722,7 +954,7 @@ class Large(PageCase):
         page.choose((5, 5), "v 1, a point")
         page.use("#go")
         page.until(lambda: page.drawn("w") > 0)
-        for _ in range(8):
+        for _ in range(5):
             page.use("#zoom-out")
         page.until(lambda: 1_000 < page.drawn("w") < 20_000)
         spans = page.script("return performance.getEntriesByName('window').map(e => e.duration)")

@@ -37,6 +37,61 @@ class Views(WebCase):
         self.look_at_the_history()
         self.print_a_sheet()
 
+    def test_what_is_typed_stays_where_columns_and_rules_come(self):
+        """Firefox tells nothing of a field that goes while somebody types in it."""
+        page, ben = self.page, self.serving.log_in("Ben")
+        self.choose(1)
+        page.click("#value-label")
+        page.type("#value-label", " more")
+        typed = page.script("return document.getElementById('value-label').value")
+        self.assertIn(" more", typed)
+        for line in "column add wells extra int", "rule add n range wells depth 0 to 100":
+            ben.line(line)
+            page.until("document.querySelector('#log li:last-child code')?.textContent === arguments[0]", line)
+        page.until("document.getElementById('value-extra') && document.getElementById('value-depth').title === 'The rule allows 0 to 100'")
+        self.assertEqual(page.script("return document.getElementById('value-label').value"), typed)
+        page.type("#value-label", "\ue007")
+        page.until("document.querySelector('#log li:last-child')?.textContent === arguments[0]", f"set wells 1 label '{typed}'ok")
+        self.assertEqual(ben.feature("wells", 1)["values"][1]["value"], typed)
+
+    def choose(self, identifier):
+        """Selects a well, at the table."""
+        page = self.page
+        page.until("document.getElementById('status').textContent === '211 features in the window, all drawn.'")
+        page.click("#tab-table")
+        page.script("const list = document.getElementById('table-layer'); list.value = 'wells'; list.dispatchEvent(new Event('change'));")
+        page.until("document.querySelectorAll('#table-rows tr').length === 4")
+        page.click(f"#table-rows tr:nth-child({identifier}) td")
+        page.until(f"document.getElementById('chosen-title').textContent === 'wells {identifier}, a point'")
+
+    def test_keys_on_a_closed_list_send_the_value_where_they_end(self):
+        page, ben = self.page, self.serving.log_in("Ben")
+        ben.line("rule add labels one-of wells label 'the old one', 'dry in August', 'town well'")
+        self.choose(1)
+        page.until("document.getElementById('value-label').tagName === 'SELECT'")
+        version = ben.version()
+        down, tab, enter = "\ue015", "\ue004", "\ue007"
+        page.type("#value-label", down)
+        page.type("#value-label", down)
+        self.assertEqual((page.script("return document.getElementById('value-label').value"), ben.version()), ("town well", version))
+        page.type("#value-label", enter)
+        page.until("document.querySelector('#log li:last-child')?.textContent === arguments[0]", "set wells 1 label 'town well'ok")
+        page.type("#value-label", "\ue013")
+        page.type("#value-label", tab)
+        page.until("document.querySelector('#log li:last-child')?.textContent === arguments[0]", "set wells 1 label 'dry in August'ok")
+        sent = page.script("return [...document.querySelectorAll('#log code')].filter(e => e.textContent.startsWith('set')).length")
+        self.assertEqual(sent, 2)
+
+    def test_the_browser_asks_before_what_is_typed_is_gone(self):
+        self.choose(1)
+        asks = "const leaving = new Event('beforeunload', { cancelable: true }); dispatchEvent(leaving); return leaving.defaultPrevented"
+        self.assertFalse(self.page.script(asks))
+        self.page.type("#value-depth", "3")
+        self.assertTrue(self.page.script(asks))
+        self.page.type("#value-depth", "\ue007")
+        self.page.until("document.querySelector('#log li:last-child pre')?.textContent === 'ok'")
+        self.assertFalse(self.page.script(asks))
+
     def type_a_line(self):
         self.page.type("#line-text", f"set wells 1 label '{HOSTILE}'\ue007")
         self.page.until("document.querySelector('#log li:last-child pre')?.textContent === 'ok'")

@@ -123,6 +123,17 @@ class Styles(LayersCase):
         other.until(lambda: other.drawn("wells") == 4)
         self.assertFalse(other.one("#layers li:nth-child(2) input").get_property("checked"))
 
+    def test_whose_styles_gave_way_is_said(self):
+        page = self.open()
+        page.script("""
+          const whole = window.fetch;
+          window.fetch = (path, words) => (path === "style" ? Promise.resolve(new Response('{"gave_way": ["old", "older"]}')) : whole(path, words));
+        """)
+        page.use("#layers li:nth-child(1) button.quiet")
+        page.pick("#style-label", "owner")
+        words = "There was no room for the styles of layers that were dropped: an undo brings old, older back without."
+        page.until(lambda: page.text("#status") == words)
+
     def test_what_is_no_style_is_said_and_the_form_shows_what_is_there(self):
         page = self.open()
         self.edit(page, 1)
@@ -138,6 +149,20 @@ class Styles(LayersCase):
         self.assertIn("town.sfs.styles can't be read", page.text("#style-fault"))
 
 
+    def test_a_style_of_qgis_is_nothing_to_the_page(self):
+        page = self.open()
+        before = self.seen(page)
+        self.serving.call("/save-qml", layer="parcels", qml="<qgis><layerOpacity>0.1</layerOpacity></qgis>")
+        # What comes behind it is shown.
+        self.serving.call("/style", layer="wells", style={"size": 20})
+        page.until(lambda: self.drawn(page, "wells-1")[1] == "20px")
+        self.assertEqual(self.seen(page), before)
+
+    def seen(self, page):
+        """How parcels look, what the console says, and the step that can be undone."""
+        return self.drawn(page, "parcels-2"), page.text("#log"), page.script("return document.querySelector('#undo').outerHTML")
+
+
 class Labels(LayersCase):
     def test_labels_stand_apart_and_only_where_there_is_room(self):
         page = self.open()
@@ -148,7 +173,7 @@ class Labels(LayersCase):
         page.until(lambda: "Third Street" in page.script(LABELS))
         page.choose((450, 150), "wells 1, a point")
         page.use("#go")
-        for _ in range(7):
+        for _ in range(4):
             page.use("#zoom-out")
         page.until(lambda: len(page.script(LABELS)) > 5)
         rooms = page.script(ROOMS)

@@ -12,8 +12,11 @@ import unittest
 from concurrent.futures import ThreadPoolExecutor
 from functools import partial
 
+from support import PROGRAM
 from test_page import PageCase
 
+from sfstore import Store
+from sfstore.values import spelled
 from sfstore.web.client import Client
 
 # Does a line as somebody else, and lets go of what is held by a key, before anything of it can be heard.
@@ -132,6 +135,37 @@ class Meanwhile(PageCase):
         page.type("show streets")
         self.assertEqual(self.ann.feature("parcels", 2)["values"][1]["value"], "Ito")
 
+    def test_a_value_that_is_typed_stays_where_columns_and_rules_come(self):
+        """Its field is taken out by neither: a browser would send what is half typed, or drop it."""
+        page = self.two()
+        field = page.one("#value-owner")
+        before = field.get_property("value")
+        field.send_keys(page.keys.CONTROL + page.keys.END + page.keys.NULL, " and")
+        for line in ("column add parcels use text", "rule add n range parcels number 0 to 9999", "rule add o range parcels owner to 'zz'"):
+            self.ann.line(line)
+            page.logged(line, "ok")
+        page.until(lambda: page.all("#value-use") and page.one("#value-number").get_property("title") == "The rule allows 0 to 9999")
+        field.send_keys(" more")
+        self.assertEqual(field.get_property("value"), before + " and more")
+        self.assertEqual([line for line, _ in page.log() if line.startswith("set")], [])
+        field.send_keys(page.keys.ENTER)
+        page.logged(f"set parcels 2 owner {spelled(f'{before} and more')}", "ok")
+
+    def test_a_value_that_is_typed_is_given_up_where_a_list_takes_its_place(self):
+        page = self.two()
+        field = page.one("#value-owner")
+        before = field.get_property("value")
+        field.send_keys(page.keys.CONTROL + page.keys.END + page.keys.NULL, " and")
+        with Store(PROGRAM, load=self.path) as store:
+            owners = sorted({feature.values["owner"] for feature in store.show("parcels") if "owner" in feature.values})
+        self.ann.line(f"rule add owners one-of parcels owner {', '.join(map(spelled, owners))}")
+        self.told(page, "A rule allows other values of owner now: look again.")
+        self.assertIn(f"set parcels 2 owner {spelled(f'{before} and')}", [line for line, _ in page.log()])
+        page.until(lambda: page.one("#value-owner").tag_name == "select")
+        self.assertEqual(page.one("#value-owner").get_property("value"), before)
+        page.type("show streets")
+        self.assertEqual(self.ann.feature("parcels", 2)["values"][1]["value"], before)
+
     def test_what_is_typed_while_its_feature_is_deleted_is_told(self):
         page = self.two()
         page.script(NOTING)
@@ -225,15 +259,47 @@ class Meanwhile(PageCase):
         page.tool("polygon")
         for point in ((1300, 600), (1380, 600), (1380, 700)):
             page.click(point)
-        ann.line("layer rename plots fields")
-        page.until(lambda: "fields" in page.text("#layers"))
+        ann.line("layer drop plots")
+        page.until(lambda: "plots" not in page.text("#layers"))
         page.send(page.keys.ENTER)
         page.until(lambda: page.text("#status") == "The layer that was chosen is not there any more: choose one.")
         self.assertTrue(page.last().startswith("POLYGON (("), page.log())
-        page.pick("#target", "fields")
+        page.pick("#target", "streets")
         page.type("layer add trees point", "ok")
-        self.assertEqual(page.one("#target").get_property("value"), "fields")
+        self.assertEqual(page.one("#target").get_property("value"), "streets")
         self.assertEqual(len(ann.line("show parcels")["rows"]), 200)
+
+    def test_a_layer_that_another_one_renames_is_followed(self):
+        """Whoever works on it goes on: what is typed, drawn, asked and shown is of the layer under its new name."""
+        page = self.two()
+        page.use("#layers li:nth-child(1) button.quiet")
+        page.use("#tab-table")
+        page.pick("#table-layer", "parcels")
+        page.pick("#ask-layer", "parcels")
+        page.pick("#target", "parcels")
+        page.one("#value-owner").send_keys(page.keys.CONTROL + "a" + page.keys.NULL, "typed")
+
+        def is_followed(name):
+            page.until(lambda: page.text("#chosen-title") == f"{name} 2, a polygon")
+            page.until(lambda: page.text("#layer-title") == f"Layer {name}" and page.text("#table-caption") == f"Values of {name}")
+            lists = [page.one(f"#{each}").get_property("value") for each in ("table-layer", "ask-layer", "target")]
+            self.assertEqual(lists, [name] * 3)
+            self.assertEqual(page.one("#value-owner").get_property("value"), "typed")
+            self.assertEqual(page.script("return document.activeElement.id"), "value-owner")
+            self.assertTrue(page.one("#refusal").get_property("hidden"))
+
+        for line, before, after in (("layer rename parcels plots", "parcels", "plots"), ("undo", "plots", "parcels"), ("redo", "parcels", "plots")):
+            self.ann.line(line)
+            page.until(lambda before=before, after=after: page.text("#status") == f"Ann renamed {before} to {after}.")
+            is_followed(after)
+        page.send(page.keys.ENTER)
+        page.logged("set plots 2 owner 'typed'", "ok")
+        # So it is with one's own.
+        page.use("#tab-console")
+        for line, name in (("undo", "plots"), ("layer rename plots fields", "fields"), ("undo", "plots"), ("redo", "fields")):
+            page.type(line, "ok")
+            page.until(lambda name=name: page.text("#chosen-title") == f"{name} 2, a polygon")
+        self.assertTrue(page.drawn("fields") and not page.drawn("parcels"))
 
     def test_a_value_that_is_not_set_is_not_shown(self):
         page = self.two()

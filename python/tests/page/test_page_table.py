@@ -81,6 +81,24 @@ class Table(PageCase):
         page.until(lambda: page.one("#line-text").is_displayed())
         page.type("layers", "rows 3\nparcels polygon\nstreets linestring\nwells point")
 
+    def test_a_column_without_values_is_narrow(self):
+        page = self.table()
+        self.serving.log_in("Ben").answer("column add parcels what_it_is_used_for text")
+        page.until(lambda: len(page.all("#table-head th")) == 4)
+        page.until(lambda: len(page.all("#table-rows td.bare")) == 50)
+        self.assertLess(page.one("#table-head th:nth-child(4)").size["width"], 80)
+        self.serving.log_in("Cleo").answer("set parcels 7 what_it_is_used_for 'a garden'")
+        page.until(lambda: not page.all("#table-rows td.bare"))
+        self.assertGreater(page.one("#table-head th:nth-child(4)").size["width"], 100)
+
+    def test_keys_go_on_where_an_edit_of_another_shows_the_table_anew(self):
+        page = self.table()
+        page.press(page.keys.ARROW_DOWN, at="#table-rows tr:nth-child(4)")
+        self.serving.log_in("Ben").answer("set parcels 5 owner 'Ito'")
+        page.until(lambda: self.rows(page)[4] == ["5", "1005", "Ito"])
+        page.send(page.keys.ARROW_DOWN, page.keys.ENTER)
+        page.until(lambda: page.text("#chosen-title") == "parcels 6, a polygon")
+
     def test_screen_readers_know_a_grid_its_rows_and_how_it_is_sorted(self):
         page = self.table()
         page.use("#table-next")

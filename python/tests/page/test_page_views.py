@@ -71,6 +71,66 @@ class Values(PageCase):
         self.assertEqual(len(page.all("#filled-values tr")), 2)
 
 
+class Room(PageCase):
+    """What has the room that it needs in a window of 1,280 by 720."""
+
+    # Whether an element shows all that it has.
+    WHOLE = "const e = document.querySelector(arguments[0]); return e.scrollHeight <= e.clientHeight && e.scrollWidth <= e.clientWidth"
+
+    def bring(self):
+        lines = ["layer add municipalities multipolygon", "layer add w point", "add w POINT (450 150)", "column add w label text", "column add w note text"]
+        lines += ["set w 1 label 'Radovljica, in the north of Slovenia'", "set w 1 note 'short'"]
+        self.make("\n".join([*lines, ""]).encode())
+        self.serving = self.serve()
+        page = self.page(self.serving, "Ann", known=("w-1", (450, 150)))
+        self.addCleanup(self.driver.set_window_size, 1300, 900)
+        self.driver.set_window_size(1280, 720)
+        page.choose((450, 150), "w 1, a point")
+        return page
+
+    def test_the_name_of_a_layer_is_not_broken(self):
+        page = self.bring()
+        name, kind = page.all("#layers li:first-child span:is(.name, .kind)")
+        self.assertEqual((name.text, kind.get_attribute("title")), ("municipalities", "multipolygon"))
+        self.assertLess(max(name.size["height"], kind.size["height"]), 24)
+        # Its list has room for the whole name too.
+        page.use("#tab-table")
+        page.pick("#table-layer", "municipalities")
+        wide = page.script("const pen = document.createElement('canvas').getContext('2d'); pen.font = '14px system-ui'; return pen.measureText('municipalities').width")
+        self.assertGreater(page.one("#table-layer").size["width"], wide + 30)
+
+    def test_a_long_value_is_seen_whole(self):
+        page = self.bring()
+        self.assertEqual([page.one(f"#value-{name}").get_property("rows") for name in ("label", "note")], [2, 1])
+        self.assertTrue(page.script(self.WHOLE, "#value-label"))
+
+    def test_a_large_area_has_its_thousands_apart(self):
+        self.make(b"layer add p polygon\nadd p POLYGON ((0 0, 40000 0, 40000 30001, 0 0))\n")
+        self.serving = self.serve()
+        page = self.page(self.serving, known=("p-1", (0, 0)))
+        page.choose((30000, 3000), "p 1, a polygon")
+        # The third side is 50000.600006 long.
+        self.assertEqual(page.text("#measures"), "Area 600,020,000, Length 120,001.600")
+
+    def test_a_title_of_a_sheet_is_seen_whole(self):
+        page = self.bring()
+        page.use("#print")
+        page.one("#sheet-name").send_keys(page.keys.CONTROL + "a" + page.keys.NULL, "Slovenia, its municipalities")
+        self.assertTrue(page.script(self.WHOLE, "#sheet-name"))
+
+    def test_what_a_field_is_for_is_seen_whole(self):
+        page = self.bring()
+        page.script("const e = document.getElementById('ask-wkt'); e.value = e.placeholder; e.style.width = '280px'")
+        self.assertTrue(page.script(self.WHOLE, "#ask-wkt"))
+
+    def test_the_form_of_a_layer_says_the_scale_of_now(self):
+        page = self.bring()
+        page.use("#layers li:nth-child(2) button.quiet")
+        for _ in range(2):
+            page.use("#zoom-in")
+            page.until(lambda: page.text("#style-now") == f"now {page.text('#scale')}")
+
+
 class Counts(PageCase):
     """How many features are in the window, and how many are drawn."""
 
@@ -261,6 +321,9 @@ class Aids(PageCase):
     def test_all_that_takes_keys_has_a_name_and_24_pixels(self):
         page = self.open()
         self.driver.set_window_size(1280, 720)
+        # The map is laid out anew, or a click goes beside what it was meant for.
+        page.until(lambda: page.script("return innerWidth") == 1280)
+        self.driver.execute_async_script("requestAnimationFrame(() => requestAnimationFrame(() => arguments[0]()))")
         self.driver.execute_cdp_cmd("Accessibility.enable", {})
         for view in self.each_view(page):
             nodes = self.driver.execute_cdp_cmd("Accessibility.getFullAXTree", {})["nodes"]

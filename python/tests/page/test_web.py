@@ -13,15 +13,18 @@ import sys
 import threading
 import time
 import unittest
+from decimal import Decimal
 
 import test_sfstore
 from support import PROGRAM
 from web_support import WebCase, link_of
 
-from sfstore import JournalError, Refused, Store, storefile
+from sfstore import JournalError, Refused, Store, files, sidecar, storefile
+from sfstore.extents import extent_of, rectangle
+from sfstore.language import GRID_MAX, GRID_MIN
 from sfstore.refusals import words_of
 from sfstore.web.steps import Steps
-from sfstore.web.windows import ELEMENTS_MAX, extent_of, rectangle
+from sfstore.web.windows import ELEMENTS_MAX
 
 CROSSED = "POLYGON ((0 0, 10 10, 10 0, 0 10, 0 0))"
 WHOLE = [-1073741824, -1073741824, 1073741823, 1073741823]
@@ -86,6 +89,50 @@ class Lines(WebCase):
             status, told = ann.serving.posted(path, ann.key, page="p", seen=1, **body)
             self.assertEqual((status, "units" in told["error"]), (400, True), told)
         self.assertEqual(ann.line("show w")["count"], 0)
+
+    def test_ten_thousand_coordinates_of_the_map_there_and_back(self):
+        """As they are written, and in the store as steps; each that is beside a place of the grid is refused."""
+        self.make(b"layer add w multipoint\n")
+        grid = sidecar.Sidecar(("2600000", "1200000", "0.001"), sidecar.Crs("EPSG", "2056", ""), [])
+        sidecar.write(str(self.path), grid, [files.digest(str(self.path))])
+        chance = random.Random(89)
+        steps = [(chance.randint(GRID_MIN, GRID_MAX), chance.randint(GRID_MIN, GRID_MAX)) for _ in range(10_000)]
+        places = [tuple(f"{Decimal(origin) + k * Decimal('0.001')}" for origin, k in zip((2_600_000, 1_200_000), step)) for step in steps]
+        wkt, in_steps = (f"MULTIPOINT ({', '.join(f'({x} {y})' for x, y in points)})" for points in (places, steps))
+        ann = self.serve().log_in("Ann")
+        said = [ann.serving.posted("/line", ann.key, page="p", seen=1, units="map", line=line) for line in (f"add w {wkt}", "get w 1")]
+        self.assertEqual(said[0], (200, {"answer": "ok 1"}))
+        self.assertEqual(ann.serving.call("/feature", key=ann.key, layer="w", id=1, units="map")["wkt"], wkt)
+        self.assertEqual(ann.serving.call("/feature", key=ann.key, layer="w", id=1)["wkt"], in_steps)
+        for x, y in places[:100]:
+            _, told = ann.serving.posted("/line", ann.key, page="p", seen=1, units="map", line=f"add w MULTIPOINT (({x}5 {y}))")
+            self.assertIn("lies between two places of the grid", json.dumps(told))
+
+    def test_what_lies_far_off_the_map_is_asked_about(self):
+        """Of a page, which has a person who answers; a program that does not say so is not asked."""
+        self.make(b"layer add w point\nlayer add p polygon\nadd w POINT (4500 1500)\nadd p POLYGON ((0 0, 900 0, 900 900, 0 0))\n")
+        sidecar.write(str(self.path), sidecar.Sidecar(("500000", "5600000", "0.01"), None, []), [files.digest(str(self.path))])
+        ann = self.serve().log_in("Ann")
+
+        def told(line, **body):
+            return ann.serving.posted("/line", ann.key, page="p", seen=ann.version(), line=line, **body)[1]
+
+        far = "add w POINT (600045 5600015)"
+        question = {"question": "(600045.00 5600015.00) lies far off the map. Is it meant?"}
+        self.assertEqual(told(far, units="map", asks=True), question)
+        self.assertEqual(told(f"together 2\rdelete w 1\r{far}", units="map", asks=True), question)
+        self.assertEqual(told("vertex move w 1 0 0 0 600045 5600015", units="map", asks=True), question)
+        self.assertEqual(told("node 500009 5600009 to 600045 5600015", units="map", asks=True), question)
+        # Nothing was done.
+        self.assertEqual(ann.line("show w")["rows"], ["1 POINT (4500 1500)"])
+        self.assertIsNone(ann.serving.call("/map", key=ann.key)["undo"])
+        self.assertEqual(told("add w POINT (500945 5600015)", units="map", asks=True), {"answer": "ok 2"})
+        self.assertEqual(told("query w within POLYGON ((0 0, 9000000 0, 9000000 9000000, 0 9000000, 0 0))", units="map", asks=True)["count"], 2)
+        # Once it is meant the map is larger.
+        self.assertEqual(told(far, units="map"), {"answer": "ok 3"})
+        self.assertEqual(told(far, units="map", asks=True), {"answer": "ok 4"})
+        self.assertEqual(told("add w POINT (900000000 0)", asks=True), {"answer": "ok 5"})
+        self.assertEqual(ann.serving.posted("/line", ann.key, page="p", line=far, asks=1, units="map")[0], 400)
 
     def test_every_command(self):
         expected = [
@@ -178,6 +225,90 @@ class Lines(WebCase):
         self.make("".join(["layer add w point\n", *points]).encode())
         answer = self.serve().log_in("Ann").line("show w")
         self.assertEqual((len(answer["rows"]), answer["count"]), (ELEMENTS_MAX, count))
+
+
+class Grids(WebCase):
+    """The grid of the map is that of the opening: where it is another one, nothing is shown or edited by the old one."""
+
+    def placed(self, step, lines=b"layer add w point\nadd w POINT (10 10)\n"):
+        """Has a store's file of lines, on a grid of this step."""
+        self.make(lines)
+        self.place(step)
+
+    def place(self, step):
+        """Has the side-car of the file say this step."""
+        grid = sidecar.Sidecar(("0", "0", step), sidecar.Crs("EPSG", "25832", ""), [])
+        sidecar.write(str(self.path), grid, [files.digest(str(self.path))])
+
+    def in_units(self, ann, line, **body):
+        return ann.serving.posted("/line", ann.key, page="p", seen=ann.version(), line=line, units="map", **body)
+
+    @unittest.skipUnless(sys.platform == "linux", "looks at processes")
+    def test_another_map_that_took_the_place_meanwhile(self):
+        self.placed("1")
+        serving = self.serve()
+        ann = serving.log_in("Ann")
+        before = serving.call("/map")["grid_mark"]
+        self.assertEqual(self.in_units(ann, "show w")[1]["rows"], ["1 POINT (10 10)"])
+        page = Listening(serving)
+        self.addCleanup(page.close)
+        page.next()
+        for child in self.programs(serving):
+            os.kill(child, signal.SIGKILL)
+        # Nobody has the store now, as its pages are told behind the first edit.
+        self.assertEqual(ann.posted("undo", 0)[0], 503)
+        self.assertEqual(page.next(), {"anew": True})
+        self.placed("0.1", b"layer add w point\nadd w POINT (100 100)\n")
+        self.assertEqual(self.in_units(ann, "show w")[1]["rows"], ["1 POINT (10.0 10.0)"])
+        told = serving.call("/map")
+        self.assertEqual((told["grid"]["step"], told["grid_fault"]), ("0.1", None))
+        # A page that has not looked again counts by the old one.
+        for line in ("add w POINT (5 5)", "show w", "undo", "save"):
+            status, answer = self.in_units(ann, line, grid=before)
+            self.assertEqual((status, "another grid" in answer["error"]), (409, True), line)
+        steps = {"page": "p", "lines": ["add w POINT (5 5)"], "seen": [None]}
+        self.assertEqual(serving.posted("/batch", ann.key, **steps, grid=before)[0], 409)
+        self.assertEqual(serving.posted("/batch", ann.key, **steps, grid=told["grid_mark"])[0], 200)
+        self.assertEqual(self.in_units(ann, "add w POINT (5 5)", grid=told["grid_mark"]), (200, {"answer": "ok 3"}))
+        self.assertEqual(ann.line("show w")["rows"], ["1 POINT (100 100)", "2 POINT (5 5)", "3 POINT (50 50)"])
+        self.assertEqual(serving.call("/feature", layer="w", id=3, units="map")["wkt"], "POINT (5.0 5.0)")
+
+    def test_a_side_car_that_is_changed(self):
+        """Once it is seen, all pages look again, and count by what it says."""
+        self.placed("1")
+        serving = self.serve()
+        ann = serving.log_in("Ann")
+        page = Listening(serving)
+        self.addCleanup(page.close)
+        page.next()
+        self.assertEqual(self.in_units(ann, "add w POINT (5 5)")[1], {"answer": "ok 2"})
+        page.next()
+        for step, line in (("0.1", "add w POINT (7 7)"), ("1", "save"), ("0.1", "show w")):
+            self.place(step)
+            status, answer = self.in_units(ann, line)
+            self.assertEqual((status, "another grid" in answer["error"]), (409, True), line)
+            self.assertEqual(page.next(), {"anew": True})
+            self.assertEqual(serving.call("/map")["grid"]["step"], step)
+        self.assertEqual(self.in_units(ann, "show w")[1]["rows"], ["1 POINT (1.0 1.0)", "2 POINT (0.5 0.5)"])
+        # Of a batch in steps, too: it may have been made by the old one.
+        self.place("1")
+        self.assertEqual(serving.posted("/batch", ann.key, page="p", lines=["add w POINT (5 5)"], seen=[None])[0], 409)
+        self.assertEqual(len(ann.line("show w")["rows"]), 2)
+
+    def test_a_save_changes_no_grid(self):
+        self.placed("0.1")
+        ann = self.serve().log_in("Ann")
+        for number in (2, 3):
+            self.assertEqual(self.in_units(ann, "add w POINT (5 5)")[1], {"answer": f"ok {number}"})
+            self.assertEqual(self.in_units(ann, "save")[0], 200)
+        self.assertEqual(ann.serving.call("/map")["grid"]["step"], "0.1")
+        self.assertEqual(ann.serving.posted("/line", ann.key, page="p", line="show w", grid=1)[0], 400)
+
+    def test_a_side_car_whose_import_broke_off(self):
+        """It takes its place with the opening, and is not passed over."""
+        self.placed("0.1")
+        os.rename(sidecar.path_of(str(self.path)), sidecar.next_of(str(self.path)))
+        self.assertEqual(self.in_units(self.serve().log_in("Ann"), "show w")[1]["rows"], ["1 POINT (1.0 1.0)"])
 
 
 class People(WebCase):
@@ -455,10 +586,6 @@ class Programs(WebCase):
         self.assertEqual(ben.line("query w intersects POINT (2 2)")["rows"], ["2"])
         self.assertEqual(ann.answer("undo"), "ok")
         self.assertEqual(ben.line("show w")["rows"], ["1 POINT (1 1)"])
-
-    def programs(self, serving):
-        said = subprocess.run(["pgrep", "-P", str(serving.process.pid)], capture_output=True, text=True)
-        return list(map(int, said.stdout.split()))
 
     @unittest.skipUnless(sys.platform == "linux", "looks at processes")
     def test_programs_that_are_killed_are_begun_anew(self):

@@ -10,6 +10,7 @@ import random
 import shutil
 import signal
 import subprocess
+import sys
 import threading
 import unittest
 from unittest import mock
@@ -24,6 +25,7 @@ from sfstore.web.batchlog import BatchLog, new_mark
 from sfstore.web.changed import Changed, changed_by, merged
 from sfstore.web.changes import Target
 from sfstore.web.keeper import Asked, Keeper, Unavailable
+from sfstore.web.mirror import _loaded
 from sfstore.web.rows import ROWS_MAX, rows_of
 from sfstore.web.steps import Step, Steps
 
@@ -33,6 +35,29 @@ MADE = (
     f"layer add p polygon\nlayer add w point\ncolumn add p owner text\ncolumn add p number int\nadd p {SQUARE}\n"
     f"add p {SQUARE}\nadd p {SQUARE}\nset p 1 owner 'Dunn'\nset p 2 number 2\n"
 ).encode()
+
+# A program that does as the real one, but has no memory for more undos than a file says, while that is there.
+NO_MEMORY = """\
+#!{python}
+import os, subprocess, sys
+child = subprocess.Popen([{program!r}, *sys.argv[1:]], stdin=subprocess.PIPE, stdout=subprocess.PIPE, close_fds=False)
+undone = 0
+for line in sys.stdin.buffer:
+    if os.path.exists({flag!r}) and line.split()[1:2] == [b"undo"]:
+        undone += 1
+        if undone > int(open({flag!r}).read()):
+            sys.stdout.buffer.write(b"refused 1 Memory\\n")
+            sys.stdout.buffer.flush()
+            continue
+    child.stdin.write(line)
+    child.stdin.flush()
+    told = child.stdout.readline()
+    count = int(told[5:]) if told.startswith(b"rows ") else 0
+    sys.stdout.buffer.write(told + b"".join(child.stdout.readline() for _ in range(count)))
+    sys.stdout.buffer.flush()
+child.stdin.close()
+sys.exit(child.wait())
+"""
 
 
 class BatchCase(WebCase):
@@ -146,6 +171,24 @@ class Whole(BatchCase):
         for _ in range(2):
             self.ann.line("redo")
             self.assertEqual(self.shown(), before)
+
+    def test_of_a_store_without_layers_nothing_of_what_was_refused_can_be_redone(self):
+        for name in ("p", "w"):
+            self.ann.answer(f"layer drop {name}")
+        self.ann.answer("undo")
+        self.ann.answer("redo")
+        self.assertEqual(self.refused(self.ann, "layer add a point", "layer add a point", "column add a v int")[1], 1)
+        self.assertEqual(self.refused(self.ann, "layer add a point", "add a POINT (1 1)", f"add a last {SQUARE}")[1], 2)
+        self.assertIsNone(self.serving.call("/map")["redo"])
+        self.assertEqual(self.ann.refused("redo")["name"], "NothingToRedo")
+        self.assertEqual(self.done(self.ann, "layer add a point", "add a POINT (1 1)"), ["ok", "ok 1"])
+        # What could be redone before, can be still.
+        self.ann.answer("undo")
+        self.ann.answer("layer add z point")
+        self.ann.answer("undo")
+        self.assertEqual(self.refused(self.ann, "layer add a point", "layer add a point")[1], 1)
+        self.assertEqual(self.ann.answer("redo"), "ok")
+        self.assertEqual([layer["name"] for layer in self.serving.call("/map")["layers"]], ["z"])
 
     def test_a_geometry_of_a_layer_that_the_batch_adds(self):
         self.assertEqual(self.done(self.ann, "layer add q polygon", f"add q {SQUARE}"), ["ok", "ok 1"])
@@ -677,6 +720,41 @@ class Snapshots(TestCase):
     def edit(self, line):
         return self.keeper.carry_out(Asked(1, "page", line, None))
 
+    def snapshot(self):
+        """A snapshot, whose file is closed with the test."""
+        snapshot = self.keeper.snapshot()
+        self.addCleanup(snapshot.opened.close)
+        return snapshot
+
+    def other(self):
+        """A store's file that is another map."""
+        path = self.folder / "other.sfs"
+        with Store(program=PROGRAM, save=path) as store:
+            store.add_layer("other")
+        return path
+
+    def test_another_file_under_its_name_is_not_loaded(self):
+        """It was looked at some moments before a second program loads it."""
+        self.edit("set p 1 number 1")
+        snapshot = self.snapshot()
+        os.rename(self.other(), self.path)
+        with _loaded(PROGRAM, snapshot) as store:
+            self.assertEqual([layer.name for layer in store.layers()], ["p", "w"])
+            self.assertEqual(store.get("p", 1)[0].values["number"], 1)
+        with self.assertRaisesRegex(Unavailable, "was changed or taken away by another program"):
+            self.keeper.snapshot()
+
+    def test_a_file_that_is_written_over_while_it_is_loaded_is_told(self):
+        snapshot, other = self.snapshot(), self.other().read_bytes()
+        real = Store.__init__
+
+        def writing(store, *words, **named):
+            self.path.write_bytes(other)
+            real(store, *words, **named)
+
+        with mock.patch.object(Store, "__init__", writing), self.assertRaisesRegex(Unavailable, "written by another program just now"):
+            _loaded(PROGRAM, snapshot)
+
     def begin(self):
         """Has a snapshot begun, of which the journal is being read."""
         read = journal.bytes_of
@@ -690,7 +768,7 @@ class Snapshots(TestCase):
         patch = mock.patch("sfstore.journal.bytes_of", slow)
         patch.start()
         self.addCleanup(patch.stop)
-        thread = threading.Thread(target=lambda: self.found.append(self.keeper.snapshot()))
+        thread = threading.Thread(target=lambda: self.found.append(self.snapshot()))
         thread.start()
         self.assertTrue(self.reads.wait(30))
         return thread
@@ -706,8 +784,8 @@ class Snapshots(TestCase):
         self.goes_on.set()
         thread.join()
         self.assertEqual(self.found[0].lines, ["@1 set p 1 number 1"])
-        self.assertEqual(self.keeper.snapshot().lines, ["@1 set p 1 number 1", "@1 set p 1 number 2"])
-        self.assertEqual(self.keeper.snapshot().version, self.found[0].version + 1)
+        self.assertEqual(self.snapshot().lines, ["@1 set p 1 number 1", "@1 set p 1 number 2"])
+        self.assertEqual(self.snapshot().version, self.found[0].version + 1)
 
     def test_a_save_meanwhile_begins_it_anew(self):
         self.edit("set p 1 number 1")
@@ -927,6 +1005,29 @@ class Cut(TestCase):
                 self.assertEqual(len(keeper.ask(lambda store: store.columns("p"))), 3)
                 keeper.carry_out(Asked(1, "page", "undo", None))
                 keeper.close()
+
+    def test_what_can_not_be_taken_back_for_want_of_memory_is_so_at_the_next_opening(self):
+        """Of a batch that is refused, and of the undo of one: nobody is told that nothing was changed."""
+        flag = self.folder / "flag"
+        program = self.script(NO_MEMORY.format(python=sys.executable, program=PROGRAM, flag=str(flag)))
+        keeper = Keeper(str(self.path), str(program))
+        self.addCleanup(lambda: ended(keeper))
+        columns = lambda: [column.name for column in keeper.ask(lambda store: store.columns("p"))]
+        before = columns()
+        flag.write_text("1")
+        with self.assertRaisesRegex(Unavailable, "could not be taken back .*: the next opening of the store does it"):
+            keeper.carry_out_all(Batch(1, "page", ["column add p one int", "column add p two int", "column drop p nix"], [None] * 3))
+        flag.unlink()
+        self.assertEqual(columns(), before)
+        self.assertIsNone(keeper.steps()[1])
+        keeper.carry_out_all(Batch(1, "page", ["column add p one int", "column add p two int"], [None] * 2))
+        flag.write_text("1")
+        with self.assertRaisesRegex(Unavailable, "could not be taken back"):
+            keeper.carry_out(Asked(1, "page", "undo", None))
+        flag.unlink()
+        self.assertEqual(columns(), [*before, "one", "two"])
+        self.assertEqual(keeper.carry_out(Asked(1, "page", "undo", None)), "ok")
+        self.assertEqual(columns(), before)
 
     def test_a_batch_that_is_refused_leaves_no_entry(self):
         keeper = self.keeper()

@@ -177,6 +177,40 @@ class Meanwhile(WebCase):
         self.assertEqual((told["number"], told["page"]), (self.ann.editor, "other page"))
 
 
+class Ruled(WebCase):
+    """What rules on values say to a page."""
+
+    LINES = b"layer add w point\ncolumn add w use text\ncolumn add w depth int\nadd w POINT (1 1)\nset w 1 use 'a'\nset w 1 depth 12\n"
+
+    def columns(self):
+        """What the page is told of the columns."""
+        [layer] = self.serving.call("/map")["layers"]
+        told = {column["name"]: {key: column[key] for key in ("allowed", "range") if key in column} for column in layer["columns"]}
+        feature = {value["name"]: {key: value[key] for key in ("allowed", "range") if key in value} for value in self.ann.feature("w", 1)["values"]}
+        self.assertEqual(feature, told)
+        return told
+
+    def setUp(self):
+        super().setUp()
+        self.make(self.LINES)
+        self.serving = self.serve()
+        self.ann = self.serving.log_in("Ann")
+
+    def test_what_all_rules_of_a_column_allow(self):
+        for line in ("one one-of w depth 3, 12, 50", "two one-of w depth 50, 12, 9", "use one-of w use E'a\\nb', 'it''s', 'a'"):
+            self.assertEqual(self.ann.line(f"rule add {line}"), {"answer": "ok"})
+        self.assertEqual(self.columns(), {"use": {"allowed": ["a\nb", "it's", "a"]}, "depth": {"allowed": ["12", "50"]}})
+        for line in ("wide range w depth 0 to 40", "low range w depth 2 to", "letters range w use to 'b'"):
+            self.ann.line(f"rule add {line}")
+        self.assertEqual(self.columns(), {"use": {"allowed": ["a\nb", "a"], "range": "to 'b'"}, "depth": {"allowed": ["12"], "range": "2 to 40"}})
+
+    def test_a_rule_that_is_broken_is_told_however_it_is_written(self):
+        for words in ("one-of w use 'b','c'", "one-of w  use 'b' , 'c'", "range w depth +1 to +5", "range w depth 01 to\t5 "):
+            refused = self.ann.refused(f"rule  add r {words}")
+            self.assertEqual((refused["name"], refused["broken"]["features"][0]["id"]), ("RuleBroken", 1), words)
+            self.assertIn(refused["broken"]["rule"], ("r one-of w use 'b', 'c'", "r range w depth 1 to 5"))
+
+
 class Remembered(unittest.TestCase):
     """What is known of changes, without a store."""
 

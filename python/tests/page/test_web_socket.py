@@ -125,11 +125,16 @@ class Calls(SocketCase):
         seen = ann.call("feature", layer="w", id=1)["version"]
         self.serving.end(signal.SIGKILL)
         self.serving = self.serve()
+        # Even a server that began in the same second counts on from above: no version is of two servers.
+        self.assertLess(seen, self.client().call("map")["version"])
         self.batch(self.client("Ben"), "set w 1 n 5")
-        with self.assertRaises(CallFailed) as caught:
-            self.batch(self.client(), "set w 1 n 6", seen=seen)
-        words = "It is not known any more whether w 1 was changed meanwhile: look again."
-        self.assertEqual((caught.exception.status, str(caught.exception)), (409, words))
+        for feature, words in (
+            (1, "Ben changed w 1 meanwhile: look again."),
+            (2, "It is not known any more whether w 2 was changed meanwhile: look again."),
+        ):
+            with self.assertRaises(CallFailed) as caught:
+                self.batch(self.client(), f"set w {feature} n 6", seen=seen)
+            self.assertEqual((caught.exception.status, str(caught.exception)), (409, words))
         # Nor one that no server has had.
         with self.assertRaises(CallFailed):
             self.batch(self.client(), "set w 1 n 6", seen=2**53)

@@ -24,7 +24,7 @@ from pathlib import Path
 from replica_support import OPTIONS, ReplicaCase, missing
 from support import FOLDER, PROGRAM, TestCase
 
-from sfstore import JournalError, Refused, Store
+from sfstore import JournalError, Refused, Store, storefile
 from sfstore.commands import COMMANDS
 from sfstore.replica import LogUnreachable, NotAcknowledged, Replica, ReplicaStopped, owning
 from sfstore.replica.demo import Trial
@@ -32,7 +32,8 @@ from sfstore.language import MEMBERS
 from sfstore.replica.lines import EDITS, QUESTIONS, asked
 from sfstore.replica.links import Link, LinkLost, LogRefused, servers_of
 from sfstore.replica.servers import Pair, Server
-from sfstore.replica.session import _door
+from sfstore.replica.replica import AnswerGone
+from sfstore.replica.session import _door, _is_answered, _Peer
 
 SCHEMA = (FOLDER / "sfstore" / "replica" / "log.sql").read_text()
 APPEND = "SELECT sfstore.append(ARRAY[gen_random_uuid()], ARRAY[%s])"
@@ -440,6 +441,12 @@ class Sessions(ReplicaCase):
         self.assertEqual(process.wait(30), 130)
         self.assertFalse(path.exists())
 
+    def test_an_answer_that_is_gone_sends_one_away_and_not_all(self):
+        gone = unittest.mock.Mock(answers=unittest.mock.Mock(side_effect=AnswerGone("place 7")))
+        peer, told = _Peer(lambda size: b"add w POINT (1 1)\n", unittest.mock.Mock()), []
+        self.assertFalse(_is_answered(gone, peer, told.append))
+        self.assertEqual(told, ["place 7"])
+
     def test_more_at_a_socket_than_are_let_in(self):
         soft, hard = resource.getrlimit(resource.RLIMIT_NOFILE)
         if hard != resource.RLIM_INFINITY and hard < 2000:
@@ -542,6 +549,24 @@ class Cuts(ReplicaCase):
         cut = owning.state(self.owner).cuts[-1]
         self.assertEqual((cut.at, cut.alike), (at, 3))
 
+    def test_rules_by_distances_hold_for_all_and_reach_all_files(self):
+        ann, ben = self.town("ann", "ben")
+        ann.run_all(["layer add anchors point", "rule add spaced never w near 2.5 w", "add w POINT (1 1)"])
+        ben.follow()
+        # They would be the root of 5 apart.
+        self.assertEqual(ben.run_all(["add w POINT (3 2)"])[0].answer, "refused 37 RuleBroken spaced 1 2")
+        self.assertEqual(ben.run("add anchors POINT (20 1)"), "ok 1")
+        self.assertEqual(ben.run("rule add linked each w near 19.000 some anchors"), "ok")
+        self.assertEqual(ann.run_all(["delete anchors 1"])[0].answer, "refused 37 RuleBroken linked 1")
+        rows = ["spaced never w near 2.500 w", "linked each w near 19 some anchors"]
+        self.assertEqual((ann.run("rules"), ben.run("rules")), (rows, rows))
+        _, (anns, bens) = self.cut(ann, ben)
+        self.assertEqual(anns, bens)
+        self.assertEqual([rule.line for rule in storefile.read_with_rules(anns)[1]], rows)
+        cleo = self.replica("cleo")
+        self.assertEqual(cleo.run("rules"), rows)
+        self.assertEqual(cleo.run_all(["add w POINT (40 1)"])[0].answer, "refused 37 RuleBroken linked 2")
+
     def test_a_cut_that_is_tried_again(self):
         key = str(uuid.uuid4())
         places = {self.ask("SELECT sfstore.cut(%s)", (key,))[0][0] for _ in range(2)}
@@ -571,6 +596,29 @@ class Cuts(ReplicaCase):
         self.assertEqual(self.file(cleo, at), files[0])
         at, files = self.cut(ann, ben, cleo)
         self.assertEqual(len(set(files)), 1)
+
+    def test_one_that_was_away_while_all_was_dropped(self):
+        """It answers nothing by what is not so any more, though nobody has written since."""
+        ann, cleo = self.town("ann", "cleo")
+        ann.run("add w POINT (1 1)")
+        cleo.follow()
+        self.assertEqual(cleo.run("show w"), ["1 POINT (1 1)"])
+        ann.run_all(["delete w 1", "add w POINT (2 2)"])
+        at = owning.cut(self.owner, 0, 10).at
+        ann.follow()
+        owning.drop_before(self.owner, at, 1, "0", 5)
+        for _ in range(2):
+            with self.assertRaisesRegex(ReplicaStopped, f"begins at place {at + 1}, and what is here ends at 2: begin from"):
+                cleo.follow()
+        cleo.close()
+        # So it is at a start, and at once.
+        begun = time.monotonic()
+        with self.assertRaisesRegex(ReplicaStopped, f"begins at place {at + 1}, and what is here ends at 0: begin from"):
+            self.replica("cleo", patience=60.0)
+        self.assertLess(time.monotonic() - begun, 30)
+        # Who has the cut goes on.
+        ann.follow()
+        self.assertEqual(ann.run("add w POINT (3 3)"), "ok 3")
 
     def test_a_file_to_begin_from_that_is_not_that_of_the_others(self):
         ann, ben = self.town("ann", "ben")
@@ -793,6 +841,32 @@ class Divergence(ReplicaCase):
         self.assert_told("is damaged, and the one before is taken: .*BadFile")
         self.assertEqual((rita.run("show w"), self.file(rita, at)), (["1 POINT (7 3)"], files[0]))
 
+    def test_a_folder_in_the_place_of_a_file(self):
+        ann, ben = self.town("ann", "ben")
+        for number in (1, 2):
+            ann.run(f"add w POINT ({number} 1)")
+            at, files = self.cut(ann, ben)
+        [path] = (self.folder / "ann").glob(f"{at:020}-*.sfs")
+        ann.close()
+        path.unlink()
+        path.mkdir()
+        ann = self.replica("ann")
+        self.assert_told("is damaged, and the one before is taken")
+        self.assertEqual(ann.run("show w"), ["1 POINT (1 1)", "2 POINT (2 1)"])
+        self.assertEqual(self.file(ann, at), files[1])
+        self.assertTrue(path.with_name(path.name + ".wrong").is_dir())
+
+    def test_a_timeline_that_is_none(self):
+        [ann] = self.town("ann")
+        ann.close()
+        path = self.folder / "ann" / "timeline"
+        for text in ("", "x", "-1", "1" * 5_000, "\u0663"):
+            path.write_text(text)
+            with self.assertRaisesRegex(ValueError, "timeline is damaged: .* Take it away once no old primary runs any more"):
+                self.replica("ann")
+        path.unlink()
+        self.assertEqual(self.replica("ann").run("show w"), [])
+
     def test_a_file_that_does_not_load(self):
         ann, cleo = self.town("ann", "cleo")
         self.cut(ann, cleo)
@@ -959,6 +1033,55 @@ class Kills(ReplicaCase):
         self.assertFalse(list((self.folder / "ben").glob("*.wrong")))
 
 
+class OlderCopy(TestCase):
+    """A log that is set back to an older copy of its disk, by hand, and of which others go on."""
+
+    @unittest.skipIf(missing(), missing())
+    def test_nothing_is_written_into_another_log(self):
+        server = Server(self.folder, "one", OPTIONS)
+        self.folder.chmod(0o755)
+        server.make()
+        server.start("")
+        self.addCleanup(server.kill)
+        link = Link(server.dsn())
+        link.ask("CREATE DATABASE town")
+        link.close()
+        owner = server.dsn(database="town")
+        owning.set_up(owner, 0)
+        for login in ("ann", "ben"):
+            owning.add_login(owner, login, is_editor=True, is_replica=True)
+
+        def replica(login):
+            replica = Replica(self.folder / login, server.dsn(login, "town"), program=PROGRAM, patience=2.0)
+            self.addCleanup(replica.close)
+            return replica
+
+        ann, ben = replica("ann"), replica("ben")
+        ann.run("layer add w point")
+        ben.close()
+        server.stop()
+        copy = self.folder / "copy"
+        subprocess.run(["cp", "-a", str(server.data), str(copy)], check=True)
+        server.start("")
+        for number in range(3):
+            ann.run(f"add w POINT (1 {number})")
+        server.stop()
+        shutil.rmtree(server.data)
+        copy.rename(server.data)
+        server.start("")
+        # It ends before, at, and behind the place that is known here.
+        ben = replica("ben")
+        for number in (1, 2, 3):
+            ben.run_all([f"add w POINT (9 {number})"] * (2 if number == 2 else 1))
+            with self.assertRaises(LogUnreachable):
+                ann.follow()
+            with self.assertRaisesRegex(NotAcknowledged, "has another log|has not the log"):
+                ann.run("add w POINT (5 5)")
+            self.assertEqual(len(ann.run("show w")), 3)
+        ben.follow()
+        self.assertEqual([row for row in ben.run("show w") if "(5 5)" in row], [])
+
+
 class Servers(ReplicaCase):
     """Servers that stall, are lost, come back, or have no room: two of their own."""
 
@@ -1037,6 +1160,32 @@ class Servers(ReplicaCase):
         self.assertEqual(ben.run("show w"), ["1 POINT (5 5)"])
         _, files = self.cut_on_primary(ann, ben)
         self.assertEqual(files[0], files[1])
+
+    def test_a_line_whose_place_another_one_has_after_a_failover_is_tried_again(self):
+        """Somebody ends its wait for the standby, and the primary is lost: the place that it was given is another line's."""
+        ann, ben = self.town("ann", "ben")
+        ben.close()
+        self.pair.standby.stall()
+        failed = []
+
+        def fail():
+            """Behind the append: what ann is told of its place is not so any more when the log is looked at."""
+            self.ask("SELECT pg_cancel_backend(pid) FROM pg_stat_activity WHERE wait_event = 'SyncRep'")
+            time.sleep(0.5)
+            for server in (self.pair.standby, self.pair.primary):
+                server.kill()
+            self.pair.standby.start(self.pair.primary.name)
+            self.pair.fail_over()
+            self.pair.renew_standby()
+            with Replica(self.folder / "ben", self.dsn("ben"), program=PROGRAM) as other:
+                failed.append(other.run("add w POINT (9 9)"))
+
+        waiting = threading.Timer(1.0, fail)
+        waiting.start()
+        self.addCleanup(waiting.join)
+        self.assertEqual(ann.run("add w POINT (1 1)"), "ok 2")
+        waiting.join()
+        self.assertEqual((failed, ann.run("show w")), (["ok 1"], ["1 POINT (9 9)", "2 POINT (1 1)"]))
 
     def cut_on_primary(self, *replicas):
         self.owner = self.pair.primary.dsn(database=self.database)

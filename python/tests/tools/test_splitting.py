@@ -9,6 +9,7 @@ import parcels_model as coverage
 from support import TestCase
 
 from sfstore import Refused
+from sfstore.drawing import Drawing
 from sfstore.tools import NotDone, merge, split
 
 SPLITS = 300
@@ -39,6 +40,20 @@ class Areas(TestCase):
     def test_from_border_to_border(self) -> None:
         found = self.parts("POLYGON ((0 0, 10 0, 10 10, 0 10, 0 0))", "LINESTRING (4 -5, 4 15)")
         self.assertEqual(list(map(coverage.doubled, found)), [120, 80])
+
+    def test_the_console_names_the_neighbours_that_got_a_corner(self) -> None:
+        """Not those whose borders stay as they are: the line crosses one border at a corner, and a slanted one between two."""
+        for area in (
+            "POLYGON ((0 0, 30 0, 31 30, 0 30, 0 0))", "POLYGON ((30 0, 60 0, 60 30, 31 30, 30 0))", "POLYGON ((0 0, 0 30, -9 30, 0 0))",
+        ):  # fmt: skip
+            self.store.add("p", area)
+        said: list[str] = []
+        drawing = Drawing(self.store, None, said.append, lambda _: False)
+        drawing.run("split", "p 1 LINESTRING (0 0, 32 20)".split())
+        drawing.run("split", "p 3 LINESTRING (0 0, -3 31)".split())
+        self.assertEqual(said, ["ok: p 1, 4; new corners in p 2", "ok: p 3, 5"])
+        [area] = self.store.get("p", 2)
+        self.assertEqual(len(area.wkt.split(",")), 6)
 
     def test_from_corner_to_corner(self) -> None:
         found = self.parts("POLYGON ((0 0, 10 0, 10 10, 0 10, 0 0))", "LINESTRING (0 0, 10 10)")

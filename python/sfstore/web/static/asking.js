@@ -1,6 +1,6 @@
 // Questions about a geometry: the answers are highlighted on the map, and listed.
 
-import { byId, counted, element } from "./dom.js";
+import { byId, counted, element, renameIn } from "./dom.js";
 import { boxOf } from "./geometry.js";
 import { call } from "./server.js";
 
@@ -32,6 +32,13 @@ export class Asking {
     const options = layers.map(({ name }) => new Option(name, name));
     byId("ask-layer").replaceChildren(new Option("all layers", ""), ...options);
     if (layers.some(({ name }) => name === chosen)) byId("ask-layer").value = chosen;
+  }
+
+  /** Follows a layer to another name. */
+  rename(before, after) {
+    renameIn(byId("ask-layer"), before, after);
+    this.hits = new Map([...this.hits].map(([layer, found]) => [layer === before ? after : layer, found]));
+    this.#show();
   }
 
   /** Asks with the predicate, distance or pattern that is chosen about a geometry that was drawn. */
@@ -70,6 +77,14 @@ export class Asking {
     this.hits.set(layer, new Set(answer.rows.map((row) => Number(row.split(" ")[0]))));
     this.count += answer.count;
     this.#show();
+    this.#scroll();
+  }
+
+  /** Scrolls the panel until what was found is seen: it stands below the fields. */
+  #scroll() {
+    const [panel, hits] = [byId("hits").closest("aside"), byId("hits")];
+    const hidden = hits.getBoundingClientRect().bottom - panel.getBoundingClientRect().bottom;
+    if (hidden > 0) panel.scrollTop += hidden;
   }
 
   clear() {
@@ -93,7 +108,7 @@ export class Asking {
     const button = element("button", { type: "button" }, `${place.layer} ${place.id}`);
     button.onclick = async () => {
       const feature = await call("feature", place);
-      if (feature.members) this.app.view.fit(boxOf(feature.members));
+      if (feature.members) this.app.view.fitFeature(boxOf(feature.members));
       this.app.selection.choose(place);
     };
     return element("li", {}, button);

@@ -20,8 +20,51 @@ export function drawn(name, attributes = {}) {
 /** A number for people, with its thousands apart. */
 export const counted = (number) => number.toLocaleString("en");
 
-/** Asks whether something is to be done. The deed is what the button says. */
+/** A decimal that is written as a text, with its thousands apart, and all of its digits. */
+export const grouped = (text) => text.replace(/^[0-9]+/, (whole) => counted(BigInt(whole)));
+
+// Keys that go through the values of a list that is closed; a letter does too.
+const PASSING = /^(Arrow.*|Home|End|Page.*|.)$/u;
+
+/**
+ * Has `done` called once a value of a list is chosen: at once by the mouse, or from the list when it is open.
+ *
+ * Keys on a closed list pass values that nobody wants: the one where they end is chosen by Enter, or when the list is left.
+ */
+export function onChosen(list, done) {
+  let isPassing = false;
+  let isWaiting = false;
+  const settle = () => {
+    if (isWaiting) done();
+    isWaiting = false;
+  };
+  list.addEventListener("pointerdown", () => (isPassing = false));
+  list.addEventListener("keydown", (event) => {
+    // With Alt, and by the space bar, the list is opened.
+    isPassing = PASSING.test(event.key) && event.key !== " " && !event.altKey;
+    if (event.key === "Enter") settle();
+  });
+  list.addEventListener("change", () => {
+    isWaiting = true;
+    if (!isPassing) settle();
+  });
+  list.addEventListener("blur", settle);
+}
+
+/** Has a layer stand under another name in a list of layers, so that it stays chosen. */
+export function renameIn(list, before, after) {
+  for (const option of list.options) if (option.value === before) option.value = after;
+}
+
+let asked = Promise.resolve();
+
+/** Asks whether something is to be done, once what was asked before is answered. The deed is what the button says. */
 export function sure(words, deed) {
+  asked = asked.then(() => ask(words, deed));
+  return asked;
+}
+
+function ask(words, deed) {
   const dialog = byId("sure");
   byId("sure-words").textContent = words;
   byId("sure-yes").textContent = deed;

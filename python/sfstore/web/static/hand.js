@@ -1,6 +1,6 @@
 // What the mouse, a finger or the cross in the middle does on the map, by the tool that is chosen.
 
-import { byId } from "./dom.js";
+import { byId, renameIn } from "./dom.js";
 import { onGrid, rectangle, wktOf } from "./geometry.js";
 
 // How near, in pixels, a place is to what is meant.
@@ -8,7 +8,16 @@ const REACH_PIXELS = 8;
 const SNAP_PIXELS = 10;
 
 const CODES = { point: 1, line: 2, polygon: 3, "ask-polygon": 3, measure: 2, split: 2, border: 2, hole: 3 };
+const HINTS = {
+  point: "Click where the point is.",
+  line: "Click from corner to corner; Enter, or a click on the last one, ends it.",
+  polygon: "Click from corner to corner; Enter, or a click on the first one, ends it.",
+  measure: "Click from place to place; Enter, or a click on the last one, ends it.",
+};
 const LEAST_POINTS = { point: 1, line: 2, polygon: 3, "ask-polygon": 3, measure: 2, split: 2, border: 2, hole: 3 };
+
+// Tools that change nothing.
+const ASKING = new Set(["ask-polygon", "measure"]);
 
 export class Hand {
   constructor(app) {
@@ -29,6 +38,7 @@ export class Hand {
     for (const button of this.#buttons()) button.setAttribute("aria-pressed", String(button.dataset.tool === tool));
     this.app.view.svg.dataset.tool = tool;
     if (this.app.drawing.has(tool)) this.app.drawing.begin(tool);
+    else this.app.tell(HINTS[tool] ?? "");
   }
 
   /** Offers the layers that take what can be drawn. */
@@ -39,6 +49,16 @@ export class Hand {
     target.replaceChildren(...layers.map(({ name, kind }) => new Option(`${name} (${kind})`, name)));
     // Where the one that was chosen has gone, none is: what is being drawn was meant for that one.
     if (!isFirst) target.value = chosen;
+  }
+
+  /** Whether something is drawn that was not sent. */
+  get hasDrawn() {
+    return this.points.length > 0 && !ASKING.has(this.tool);
+  }
+
+  /** Follows a layer to another name: what is being drawn is meant for it. */
+  rename(before, after) {
+    renameIn(byId("target"), before, after);
   }
 
   /** What a drag that begins here is for: a vertex, a box to ask about, or nothing but moving the map. */

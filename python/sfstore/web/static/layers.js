@@ -1,6 +1,6 @@
 // The forms for layers: how one looks, its name and its columns, and new ones. What they make are lines of the console.
 
-import { byId, element, sure } from "./dom.js";
+import { byId, element, onChosen, sure } from "./dom.js";
 import { scaleWords } from "./place.js";
 import { call, CallFailed } from "./server.js";
 import { DEFAULTS, widthOf } from "./styles.js";
@@ -30,7 +30,11 @@ export class LayerEditor {
     this.name = null;
     this.fault = "";
     this.turn = Promise.resolve();
-    for (const [field, id] of Object.entries(FIELDS)) byId(id).onchange = () => this.#changed(field);
+    for (const [field, id] of Object.entries(FIELDS)) {
+      const changed = () => this.#changed(field);
+      if (byId(id).tagName === "SELECT") onChosen(byId(id), changed);
+      else byId(id).onchange = changed;
+    }
     for (const button of byId("layer-editor").querySelectorAll("[data-clear]")) button.onclick = () => this.#give({ [button.dataset.clear]: null });
     for (const button of byId("layer-editor").querySelectorAll("[data-scale]")) button.onclick = () => this.#give({ [button.dataset.scale]: this.#scaleNow() });
     byId("style-reset").onclick = () => this.#send({ style: null });
@@ -66,6 +70,17 @@ export class LayerEditor {
     else this.show();
   }
 
+  /** Follows a layer to another name: its form stays open. */
+  rename(before, after) {
+    if (this.name === before) this.name = after;
+  }
+
+  /** Whether a name is typed that was not sent. */
+  get hasTyped() {
+    const isOther = this.name !== null && byId("layer-name").value.trim() !== this.name;
+    return isOther || ["layer-new-name", "column-name"].some((id) => byId(id).value.trim());
+  }
+
   /** Opens the form of a layer. */
   open(name) {
     this.name = name;
@@ -95,7 +110,7 @@ export class LayerEditor {
     for (const part of byId("layer-editor").querySelectorAll("[data-kinds]")) part.hidden = kind !== "any" && !part.dataset.kinds.split(" ").some((word) => kind.includes(word));
     for (const button of byId("layer-editor").querySelectorAll("[data-clear]")) button.disabled = style[button.dataset.clear] === null;
     byId("style-label-more").hidden = !style.label;
-    byId("style-now").textContent = `now 1:${scaleWords(this.app.view.denominator)}`;
+    this.follow();
     this.#showColumns(layer);
     if (byId("layer-name") !== document.activeElement) byId("layer-name").value = layer.name;
     const at = this.app.map.layers.indexOf(layer);
@@ -110,6 +125,11 @@ export class LayerEditor {
       return element("li", {}, element("span", {}, name, " ", element("span", { className: "note" }, type)), button);
     });
     byId("columns").replaceChildren(...items);
+  }
+
+  /** Tells at which scale the map is. */
+  follow() {
+    byId("style-now").textContent = `now 1:${scaleWords(this.app.view.denominator)}`;
   }
 
   #scaleNow() {
@@ -134,8 +154,16 @@ export class LayerEditor {
   #send(asked) {
     const { name } = this;
     // One after another: the last one is what stays.
-    this.turn = this.turn.then(() => call("style", { layer: name, ...asked })).catch((fault) => this.#tellFault(fault));
+    this.turn = this.turn
+      .then(() => call("style", { layer: name, ...asked }))
+      .then((answer) => this.#tellGone(answer.gave_way))
+      .catch((fault) => this.#tellFault(fault));
     return this.turn;
+  }
+
+  /** Tells which layers that were dropped have lost their styles, as there was no room for them. */
+  #tellGone(layers) {
+    if (layers) this.app.tell(`There was no room for the styles of layers that were dropped: an undo brings ${layers.join(", ")} back without.`);
   }
 
   async #tellFault(fault) {

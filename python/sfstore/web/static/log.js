@@ -61,6 +61,11 @@ export class Log {
     this.group = null;
   }
 
+  /** Whether a line, or a group, is typed that was not sent. */
+  get hasTyped() {
+    return Boolean(this.group || byId("line-text").value.trim());
+  }
+
   /** Writes a line with its answer. */
   add(line, text, kind = "", who = "") {
     const entry = element("li", { className: kind });

@@ -46,6 +46,14 @@ export class FeatureMap {
     this.#showLayers();
   }
 
+  /** Follows a layer to another name: whoever has turned it off does not see it. */
+  rename(before, after) {
+    const layer = this.layer(before);
+    if (!layer) return;
+    layer.name = after;
+    for (const { id, path } of layer.features.values()) path.id = `${after}-${id}`;
+  }
+
   /** Takes how layers look, and draws them so. */
   setStyles(styles) {
     this.styles = styles;

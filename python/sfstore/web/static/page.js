@@ -29,6 +29,7 @@ const UNDRAWN = /^[ \t]*(set|unset|column|rule)[ \t]/;
 const OF_FEATURE = /^[ \t]*(?:delete|replace|vertex[ \t]+[a-z]+)[ \t]+([^ \t]+)[ \t]+([0-9]+)/;
 // So many changed features are drawn anew one by one.
 const CHANGED_MAX = 1_000;
+const RENAMING = /^[ \t]*layer[ \t]+rename[ \t]+([^ \t]+)[ \t]+([^ \t]+)/;
 const ADDITION = /^[ \t]*(?:add|addhex)[ \t]+([^ \t]+)/;
 const PAN_PIXELS = 60;
 // What is smaller on the screen than this is zoomed to.
@@ -108,6 +109,7 @@ class App {
     byId("title").textContent = document.title = found.title;
     this.map.styles = styles;
     this.place.setGrid(found.grid);
+    this.grid = found.grid_mark;
     this.background.set(found.background, this.place.units);
     this.map.setLayers(found.layers);
     const listed = JSON.stringify(found.layers.map(({ name, kind }) => [name, kind]));
@@ -131,9 +133,10 @@ class App {
    */
   async run(line, { isFurther = false, seen = this.version } = {}) {
     const [shown] = line.split("\r");
+    const step = this.steps[shown.trim()]?.line ?? shown;
     let answer;
     try {
-      answer = await call("line", { line, page: this.page, seen, units: "map" });
+      answer = await this.#send({ line, page: this.page, seen, units: "map", grid: this.grid });
     } catch (fault) {
       if (fault.status === 409) this.miss(shown, fault.message);
       else if (fault instanceof CallFailed) this.log.add(shown, fault.message, "refused");
@@ -145,9 +148,19 @@ class App {
     else {
       this.#closeRefusal();
       if (answer.rows && /^[ \t]*(query|match|nearest|reach)[ \t]/.test(line)) this.asking.take(line.trim(), answer, isFurther);
-      else if (answer.answer) await this.#redraw(shown, changedBy(shown, answer.answer));
+      else if (answer.answer) {
+        this.#rename(renamedBy(shown, step));
+        await this.#redraw(shown, changedBy(shown, answer.answer));
+      }
     }
     return answer;
+  }
+
+  /** Sends a line, and has the person answer before it is carried out where it leads far off the map. */
+  async #send(asked) {
+    const answer = await call("line", { ...asked, asks: true });
+    if (!answer.question) return answer;
+    return (await sure(answer.question, "It is meant")) ? call("line", asked) : { text: "Nothing was done: it was not meant." };
   }
 
   /** Tells of a line that was not carried out, as somebody was there before. */
@@ -164,6 +177,11 @@ class App {
     if (found) await this.selection.choose({ layer, id: Number(found[1]) });
   }
 
+  /** Whether something is typed or drawn that was not sent, and would be gone with the page. */
+  get hasUnsent() {
+    return this.selection.hasTyped || this.log.hasTyped || this.layerEditor.hasTyped || this.hand.hasDrawn;
+  }
+
   mark() {
     this.map.mark(this.selection.place, this.asking.hits);
     this.table.mark();
@@ -177,7 +195,7 @@ class App {
     const [wide, high] = [(right - left) * this.view.scale, (top - bottom) * this.view.scale];
     const isLarge = wide > this.view.width || high > this.view.height;
     const isSmall = right > left && top > bottom && Math.max(wide, high) < SMALL_PIXELS;
-    if (isLarge || isSmall) this.view.fit([left, bottom, right, top]);
+    if (isLarge || isSmall) this.view.fitFeature([left, bottom, right, top]);
     else if (!isWithin(this.view.box(), [left, bottom, right, top])) this.view.center((left + right) / 2, (bottom + top) / 2);
   }
 
@@ -186,13 +204,15 @@ class App {
     if (name === "table") this.table.show(this.table.begin, { around: this.selection.place?.id });
   }
 
+  /** Says something; without words what the window has. */
   tell(words) {
-    byId("status").textContent = words;
+    byId("status").textContent = words || this.countedWords || "";
     this.told = words ? performance.now() : 0;
   }
 
   /** Says what the window has, once a message has stood for some seconds. */
   #tellCounted(words) {
+    this.countedWords = words;
     clearTimeout(this.telling);
     const left = this.told + READ_MILLISECONDS - performance.now();
     if (this.told && left > 0) this.telling = setTimeout(() => this.#tellCounted(words), left);
@@ -203,13 +223,18 @@ class App {
   async #hear(event) {
     if (event.hello || event.anew) return this.#lookAnew();
     if (event.styled !== undefined) return this.restyle();
+    // How a layer looks in QGIS is nothing that a page shows.
+    if (event.qgis_styled !== undefined) return;
     this.#tellSteps(event);
     this.history.changed();
     if (event.saved) this.log.add("save", "The history begins anew.", "", event.saved);
     else if (event.number !== this.editor || event.page !== this.page) {
       const moved = event.line === event.step ? "ok" : event.shown_step;
       this.log.add(event.shown, moved, "other", event.editor);
+      const renamed = renamedBy(event.line, event.step);
+      this.#rename(renamed);
       await this.#redraw(event.line, event.changed);
+      if (renamed) this.tell(`${event.editor} renamed ${renamed.join(" to ")}.`);
     }
     this.version = Math.max(this.version, event.version ?? 0);
   }
@@ -229,11 +254,14 @@ class App {
 
   /** Looks at everything, at first at the whole map. */
   async #lookAnew() {
+    const before = this.grid;
     const { version, extent, grid_fault: fault } = await this.#readMap(!this.isShown);
+    const isMoved = this.isShown && this.grid !== before;
     if (extent) this.view.fit(extent);
-    if (fault && !this.isShown) this.#showWords("Coordinates are no longer those of the map.", { reason: fault });
+    if (fault && (isMoved || !this.isShown)) this.#showWords("Coordinates are no longer those of the map.", { reason: fault });
     this.isShown = true;
-    await this.map.refresh();
+    // On another grid everything lies elsewhere.
+    await (isMoved ? this.showAll() : this.map.refresh());
     await this.selection.refresh();
     this.history.changed();
     this.version = Math.max(this.version, version);
@@ -254,6 +282,12 @@ class App {
     await this.selection.refresh();
   }
 
+  /** Has all parts follow a layer to another name: whoever works on it goes on. */
+  #rename(renamed) {
+    if (!renamed) return;
+    for (const part of [this.map, this.selection, this.hand, this.asking, this.table, this.layerEditor]) part.rename(...renamed);
+  }
+
   #tellSteps({ undo, redo }) {
     this.steps = { undo, redo };
     for (const [name, step] of [["undo", undo], ["redo", redo]]) {
@@ -265,14 +299,33 @@ class App {
   #tellRefused(refused) {
     const { place, whose, member, broken } = refused;
     const which = member ? `, line ${member} of the group` : "";
-    this.#showWords(`Refused (${refused.number} ${refused.name})${which}: ${refused.reason}.`, {
-      reason: whose ? `The next step is ${whose.editor}'s: ${whose.shown}` : broken ? brokenWords(broken) : "",
-      place: place ? `${place.shown}.` : "",
-      help: refused.help,
-    });
+    if (broken) this.#tellBroken(refused, which);
+    else {
+      this.#showWords(`Refused (${refused.number} ${refused.name})${which}: ${refused.reason}.`, {
+        reason: whose ? `The next step is ${whose.editor}'s: ${whose.shown}` : "",
+        place: place ? `${place.shown}.` : "",
+        help: refused.help,
+      });
+    }
     const breaking = (broken?.features ?? []).filter((feature) => feature.members);
     this.overlay.showRefused(refused.members ? refused : null, place?.points ?? [], breaking);
-    if (place) this.#uncover(place.points[0]);
+    if (place?.points.length) this.#uncover(place.points[0]);
+    else if (breaking.length) this.#visit(boxOf(breaking[0].members));
+  }
+
+  /** Moves the map to a box where it shows nothing of it. */
+  #visit([left, bottom, right, top]) {
+    const [west, south, east, north] = this.view.box();
+    if (left > east || right < west || bottom > north || top < south) this.view.fitFeature([left, bottom, right, top]);
+  }
+
+  /** Tells what would be if the edit were made, what helps, and which rule forbids it. */
+  #tellBroken({ number, name, broken }, which) {
+    const added = broken.features.filter((feature) => !feature.members).map(({ layer, id }) => `; ${layer} ${id} is the new one`);
+    this.#showWords(`Refused${which}: ${broken.sentence}${added.join("")}.`, {
+      reason: broken.remedy,
+      help: `The rule is ${broken.rule} (${number} ${name}).`,
+    });
   }
 
   /** Tells why a tool has made nothing, and shows where. */
@@ -289,8 +342,9 @@ class App {
     box.hidden = false;
   }
 
-  /** Moves the map where the words hide a place that they tell of. */
+  /** Moves the map where the words hide a place that they tell of, or it lies out of the window. */
   #uncover(point) {
+    this.#visit(boxOf([[point]]));
     const box = byId("refusal").getBoundingClientRect();
     const frame = this.view.svg.getBoundingClientRect();
     const [left, top] = this.view.toPixels(...point);
@@ -346,7 +400,7 @@ class App {
     const count = element("span", { className: "note count" });
     count.dataset.count = name;
     const picture = swatch(this.map.layer(name).style, kind, `tint-${place % 8}`);
-    const label = element("label", {}, box, picture, name, element("span", { className: "note" }, kind));
+    const label = element("label", {}, box, picture, element("span", { className: "name" }, name), element("span", { className: "note kind", title: kind }, kind));
     const edit = element("button", { type: "button", className: "quiet", ariaLabel: `Edit ${name}`, title: `Style, labels, columns and name of ${name}` }, "⋯");
     edit.onclick = () => this.layerEditor.open(name);
     const item = element("li", {}, label, count, edit);
@@ -360,6 +414,7 @@ class App {
     this.place?.follow();
     this.labels?.follow();
     this.background?.follow();
+    this.layerEditor?.follow();
   }
 
   #mapKey(event) {
@@ -425,19 +480,23 @@ class App {
   }
 }
 
-/** Which rule would be broken, and by what. */
-function brokenWords({ rule, features }) {
-  const named = features.map(({ layer, id }) => `${layer} ${id}`);
-  return `The rule is ${rule}; ${named.join(" and ")} would break it.`;
-}
-
 /** The feature that an accepted line has changed; nothing where it is not told so exactly. */
 function changedBy(line, answer) {
   const [, layer, id] = OF_FEATURE.exec(line) ?? [null, ADDITION.exec(line)?.[1], /^ok ([0-9]+)$/.exec(answer)?.[1]];
   return layer && id ? [{ what: "changed", layer, id: Number(id) }] : undefined;
 }
 
+/** The names of a layer before and after an accepted line, which made a step or moved it; nothing where it renamed none. */
+function renamedBy(line, step) {
+  const [, ...names] = RENAMING.exec(step) ?? [];
+  return names.length ? (line.trim() === "undo" ? names.reverse() : names) : null;
+}
+
 const app = new App();
+addEventListener("beforeunload", (event) => {
+  // The browser asks, in its own words.
+  if (app.hasUnsent) event.preventDefault();
+});
 addEventListener("unhandledrejection", (event) => {
   if (!(event.reason instanceof CallFailed)) return;
   event.preventDefault();

@@ -6,6 +6,7 @@ import { Units } from "./units.js";
 
 // How wide the scale bar is at most.
 const BAR_PIXELS = 140;
+const KILOMETRE = 1_000;
 
 /** A scale for people: three digits of it. */
 export const scaleWords = (denominator) => (denominator < 1 ? denominator.toPrecision(2) : Number(denominator.toPrecision(3)).toLocaleString("en"));
@@ -86,5 +87,7 @@ export function barOf(scale, units) {
   const most = (BAR_PIXELS / scale) * units.size;
   const power = 10 ** Math.floor(Math.log10(most));
   const length = [5, 2, 1].map((times) => times * power).find((long) => long <= most);
-  return { pixels: (length / units.size) * scale, words: length.toLocaleString("en", { maximumSignificantDigits: 1 }) };
+  const words = (number) => number.toLocaleString("en", { maximumSignificantDigits: 1 });
+  const isFar = units.unit === "m" && length >= KILOMETRE;
+  return { pixels: (length / units.size) * scale, words: isFar ? `${words(length / KILOMETRE)} km` : units.withUnit(words(length)) };
 }

@@ -1,6 +1,7 @@
 // A sheet of paper with the map, a title, a legend, a scale bar and north: what the browser prints.
 
 import { byId, drawn, element } from "./dom.js";
+import { onGrid } from "./geometry.js";
 import { barOf } from "./place.js";
 import { swatch } from "./styles.js";
 
@@ -49,7 +50,7 @@ export class Sheet {
     byId("sheet-title").textContent = byId("sheet-name").value || byId("title").textContent;
     byId("sheet-legend").replaceChildren(...this.#legend());
     byId("sheet-foot").textContent = [byId("system").textContent, new Date().toLocaleDateString("en-CA")].filter(Boolean).join(", ");
-    byId("furniture").replaceChildren(...this.#bar(), ...this.#north());
+    byId("furniture").replaceChildren(...this.#bar(), ...this.#north(), ...this.#corners());
   }
 
   #end() {
@@ -74,6 +75,18 @@ export class Sheet {
     return [under, bar, text];
   }
 
+  /** The coordinates of the upper left and the lower right corner, where they are those of a map. */
+  #corners() {
+    const { view, place } = this.app;
+    if (!place.units.isMap) return [];
+    const [left, bottom, right, top] = view.box(0);
+    const [near, far] = [MARGIN / 2, view.width - MARGIN / 2];
+    return [
+      cornerWords(place.units.point(onGrid(left, top)), { x: near, y: MARGIN, class: "corner first" }),
+      cornerWords(place.units.point(onGrid(right, bottom)), { x: far, y: view.height - MARGIN / 2, class: "corner last" }),
+    ];
+  }
+
   #north() {
     const left = this.app.view.width - MARGIN - 12;
     const arrow = drawn("path", { class: "north", d: `M${left} ${MARGIN + 14}l7 26l-7 -6l-7 6Z` });
@@ -81,4 +94,11 @@ export class Sheet {
     text.textContent = "N";
     return [drawn("rect", { x: left - 14, y: MARGIN - 6, width: 28, height: 52, class: "under" }), arrow, text];
   }
+}
+
+/** Coordinates at a corner of the map, over what is drawn there. */
+function cornerWords(words, place) {
+  const text = drawn("text", place);
+  text.textContent = words;
+  return text;
 }

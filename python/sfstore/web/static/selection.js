@@ -1,9 +1,9 @@
 // The feature that is selected: its values, its text, and its vertices on the map.
 
-import { byId, drawn, element, sure } from "./dom.js";
+import { byId, drawn, element, grouped, sure } from "./dom.js";
 import { boxOf, isInBox, KINDS, middlesOf, onGrid, verticesOf, withVertex } from "./geometry.js";
 import { call } from "./server.js";
-import { NO_VALUE, fieldOf, isTyped, labelOf, show, valueIn, wordOf } from "./values.js";
+import { NO_VALUE, faultIn, fieldOf, hint, isTyped, labelOf, shortLabelOf, show, valueIn, wordIn } from "./values.js";
 
 // How many vertices can be taken hold of at a time.
 const HANDLES_MAX = 300;
@@ -25,11 +25,32 @@ export class Selection {
     this.isUnsure = false;
     byId("replace").onclick = () => this.#replace();
     byId("delete").onclick = () => this.delete();
-    byId("go").onclick = () => app.view.fit(boxOf(this.feature.members));
+    byId("go").onclick = () => app.view.fitFeature(boxOf(this.feature.members));
   }
 
   get place() {
     return this.feature && { layer: this.feature.layer, id: this.feature.id };
+  }
+
+  /** Whether a value or a geometry is typed that was not sent. */
+  get hasTyped() {
+    return Boolean(this.feature) && (this.#isTextTyped(this.feature) || [...byId("values").querySelectorAll("input, select, textarea")].some(isTyped));
+  }
+
+  #isTextTyped({ wkt }) {
+    return ![wkt, this.sentText].includes(typedText());
+  }
+
+  /** Follows the layer of what is selected to another name. What is typed stays, and so does what is dragged. */
+  rename(before, after) {
+    const renamed = (feature) => (feature?.layer === before ? { ...feature, layer: after } : feature);
+    this.wanted = renamed(this.wanted);
+    this.feature = renamed(this.feature);
+    for (const part of [...this.#rows(), ...this.app.overlay.handles.children, this.held].filter(Boolean)) part.feature = renamed(part.feature);
+  }
+
+  #rows() {
+    return [byId("filled-values"), byId("empty-values")].flatMap((body) => [...body.rows]);
   }
 
   /**
@@ -92,15 +113,14 @@ export class Selection {
     if (now?.wkt !== before.wkt) {
       if (this.held) this.app.miss(vertexLine(this.held, before, this.app.place.units), words);
       this.giveUp();
-      const isTyped = ![before.wkt, this.sentText].includes(typedText());
-      if (isTyped) this.app.miss(`replace ${nameOf(before)} ${typedText()}`, words);
+      if (this.#isTextTyped(before)) this.app.miss(`replace ${nameOf(before)} ${typedText()}`, words);
       byId("wkt").value = now?.wkt ?? "";
     }
-    for (const { name, type, value } of before.values) {
-      const input = byId(`value-${name}`);
-      const left = now?.values.find((other) => other.name === name && other.type === type);
-      if (!isTyped(input) || (left && left.value === value)) continue;
-      this.app.miss(valueLine(before, name, type, valueIn(input)), words);
+    for (const each of before.values) {
+      const input = byId(`value-${each.name}`);
+      const left = now?.values.find((other) => other.name === each.name && other.type === each.type);
+      if (!isTyped(input) || (left && left.value === each.value && fieldKey(left) === fieldKey(each))) continue;
+      this.app.miss(valueLine(before, each.name, each.type, input), left?.value === each.value ? otherField(each) : words);
       show(input, input.shown);
     }
   }
@@ -111,9 +131,9 @@ export class Selection {
     byId("chosen-title").textContent = feature ? `${nameOf(feature)}, a ${KINDS[feature.code]}` : "Nothing selected";
     if (!feature) this.shown = "";
     if (!feature) return;
-    byId("measures").textContent = [feature.area && `Area ${feature.area}`, feature.length && `Length ${feature.length}`].filter(Boolean).join(", ");
+    byId("measures").replaceChildren(...this.#measures(feature));
     if (!isSame(before, feature)) byId("wkt").value = feature.wkt;
-    const shown = JSON.stringify([feature.layer, feature.id, feature.values.map(({ name, type }) => [name, type])]);
+    const shown = JSON.stringify([feature.layer, feature.id, feature.values.map(fieldKey)]);
     // The same fields stay, so that nobody is disturbed who types in one of them.
     if (shown !== this.shown) this.#showRows(feature);
     this.shown = shown;
@@ -121,13 +141,22 @@ export class Selection {
     byId("empty-count").textContent = emptyWords([...byId("empty-values").rows]);
   }
 
-  /** Shows a field for each column. Where many have no value, these are folded, until somebody opens them. */
+  #measures({ area, length }) {
+    const { units } = this.app.place;
+    const parts = [area && `Area ${units.withSquaredUnit(grouped(area))}`, length && `Length ${units.withUnit(grouped(length))}`].filter(Boolean);
+    // A number and its unit stay on one line.
+    return parts.flatMap((part, at) => [at ? ", " : "", element("span", {}, part)]);
+  }
+
+  /** Shows a field for each column. Where many have no value, these are folded, until somebody opens them. What is typed in one stays. */
   #showRows(feature) {
+    const bodies = [byId("filled-values"), byId("empty-values")];
+    const known = new Map(this.#rows().map((row) => [rowKey(row.feature, row.column), row]));
     const isEmpty = ({ value }) => value === null;
     const isFolded = feature.values.filter(isEmpty).length >= FOLDED_FROM;
-    const rows = (values) => values.map((value) => this.#row(value, feature));
-    byId("filled-values").replaceChildren(...rows(feature.values.filter((each) => !isFolded || !isEmpty(each))));
-    byId("empty-values").replaceChildren(...rows(feature.values.filter((each) => isFolded && isEmpty(each))));
+    const rows = feature.values.map((each) => known.get(rowKey(feature, each)) ?? this.#row(each, feature));
+    const place = (row, each) => (row.contains(document.activeElement) ? row.parentNode : bodies[isFolded && isEmpty(each) ? 1 : 0]);
+    for (const body of bodies) arrange(body, rows.filter((row, at) => place(row, feature.values[at]) === body));
     byId("empty").hidden = !isFolded;
     // Of a feature that has no value at all, as one that was drawn just now, all fields are seen.
     if (isFolded) byId("empty").open = feature.values.every(isEmpty);
@@ -135,26 +164,30 @@ export class Selection {
   }
 
   /** A row of the table: the name of a column, and a field for its value. */
-  #row({ name, type }, feature) {
-    const input = fieldOf(name, type, () => this.#set(feature, name, type, input));
+  #row(column, feature) {
+    const { name, type } = column;
+    const input = fieldOf(column, () => this.#set(row.feature, name, type, input));
     const clear = element("button", { type: "button", ariaLabel: `Clear ${name}`, title: `Clear ${name}` }, "×");
-    clear.onclick = () => this.#edit((words) => `unset ${words} ${name}`, feature);
-    const label = element("label", { htmlFor: input.id }, labelOf(name, type));
-    return element("tr", {}, element("th", { scope: "row" }, label), element("td", {}, input), element("td", {}, clear));
+    clear.onclick = () => this.#edit((words) => `unset ${words} ${name}`, row.feature);
+    const label = element("label", { htmlFor: input.id, title: labelOf(name, type) }, shortLabelOf(name, type));
+    const row = element("tr", {}, element("th", { scope: "row" }, label), element("td", {}, input), element("td", {}, clear));
+    return Object.assign(row, { feature, column });
   }
 
   /** Sets a value that was typed. Where that is not done, the field shows the value that is there. */
   async #set(feature, name, type, input) {
     const before = input.shown;
-    if (input.validity.badInput) {
-      this.app.miss(`set ${nameOf(feature)} ${name}`, `The ${type} in ${name} is not whole: nothing was sent.`);
+    const fault = faultIn(input, name);
+    if (fault) {
+      const line = input.validity.badInput ? `set ${nameOf(feature)} ${name}` : valueLine(feature, name, type, input);
+      this.app.miss(line, `${fault}: nothing was sent.`);
       show(input, before);
       return;
     }
     input.shown = valueIn(input);
     let isSet = false;
     try {
-      const answer = await this.#edit(() => valueLine(feature, name, type, valueIn(input)), feature);
+      const answer = await this.#edit(() => valueLine(feature, name, type, input), feature);
       isSet = !answer.refused;
     } finally {
       if (!isSet) {
@@ -294,15 +327,30 @@ function vertexLine({ vertex, tried }, feature, units) {
   return `vertex ${vertex.isNew ? "insert" : "move"} ${nameOf(feature)} ${numbers(vertex)} ${units.point(tried)}`;
 }
 
-/** The line that sets a value that was typed, or clears it. */
-function valueLine(feature, name, type, typed) {
-  const word = wordOf(type, typed);
+/** The line that sets what stands in a field, or clears the value. */
+function valueLine(feature, name, type, input) {
+  const word = wordIn(input, type);
   return word === "" ? `unset ${nameOf(feature)} ${name}` : `set ${nameOf(feature)} ${name} ${word}`;
 }
 
+/** What makes the field of a column another one. */
+const fieldKey = ({ name, type, allowed }) => JSON.stringify([name, type, allowed]);
+
+const rowKey = ({ layer, id }, column) => JSON.stringify([layer, id, fieldKey(column)]);
+
+/** Why what was typed is given up, where a column has another field now. */
+const otherField = ({ name }) => `A rule allows other values of ${name} now: look again.`;
+
+/** Has a part of a table these rows, in their order. One that is there already is not taken out: whoever types in it would be disturbed. */
+function arrange(body, rows) {
+  for (const row of [...body.rows]) if (!rows.includes(row)) row.remove();
+  rows.forEach((row, at) => body.rows[at] !== row && body.insertBefore(row, body.rows[at] ?? null));
+}
+
 /** Shows a value in its field, but not over what is being typed there. */
-function fill({ name, value }) {
+function fill({ name, value, range }) {
   const input = byId(`value-${name}`);
+  hint(input, range);
   if (input === document.activeElement && isTyped(input)) input.shown = value ?? "";
   else show(input, value ?? "");
   input.placeholder = value === null ? NO_VALUE : "";

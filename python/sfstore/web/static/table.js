@@ -1,6 +1,6 @@
 // A table of a layer's values: the server sorts, filters and searches, and gives a page at a time.
 
-import { byId, counted, element } from "./dom.js";
+import { byId, counted, element, renameIn } from "./dom.js";
 import { call } from "./server.js";
 import { labelOf } from "./values.js";
 
@@ -46,6 +46,11 @@ export class ValueTable {
     if (layers.some(({ name }) => name === chosen)) byId("table-layer").value = chosen;
     this.#listColumns();
     this.changed();
+  }
+
+  /** Follows a layer to another name. */
+  rename(before, after) {
+    renameIn(byId("table-layer"), before, after);
   }
 
   /** Shows another layer, with all that it has. */
@@ -145,23 +150,28 @@ export class ValueTable {
   /** Shows a page, or nothing with a sentence that says why. */
   #tell(page, words = "") {
     this.page = page;
+    const focused = document.activeElement.closest("#table-rows tr")?.dataset.id;
     const { rows = [], columns = [], count = 0, total = 0, from = 0 } = page ?? {};
     const seen = rows.length ? `${counted(from + 1)} to ${counted(from + rows.length)} of ${counted(count)}` : "none";
     byId("table-count").textContent = words || seen + (count < total ? ` found, of ${counted(total)}` : "");
     byId("table-back").disabled = from === 0;
     byId("table-next").disabled = from + rows.length >= count;
     byId("table-caption").textContent = page ? `Values of ${page.layer}` : "Values";
-    byId("table-head").replaceChildren(...(page ? [{ name: null, type: "int" }, ...columns].map((column) => this.#head(column)) : []));
+    // A column of which no row has a value is narrow: of many columns those that say something are seen.
+    this.bare = columns.map((_, at) => rows.length > 0 && rows.every(([, values]) => values[at] === null));
+    byId("table-head").replaceChildren(...(page ? [{ name: null, type: "int" }, ...columns].map((column, at) => this.#head(column, this.bare[at - 1])) : []));
     byId("table-rows").replaceChildren(...rows.map(([id, values], at) => this.#row(id, values, from + at)));
     const grid = byId("table-grid");
     grid.setAttribute("aria-rowcount", String(count + 1));
     grid.setAttribute("aria-colcount", String(columns.length + 1));
     byId("table-frame").scrollTop = 0;
+    // Whoever goes through the rows by keys goes on where an edit of somebody else has the table shown anew.
+    if (focused) this.#rowsShown().find(({ dataset }) => dataset.id === focused)?.focus();
     this.#markRows();
   }
 
   /** The head of a column, which sorts by it; without a name that of the identifiers. */
-  #head({ name, type }) {
+  #head({ name, type }, isBare = false) {
     const button = element("button", { type: "button" }, name === null ? "feature" : name);
     button.title = name === null ? "Sort by identifier" : `Sort by ${labelOf(name, type)}`;
     button.onclick = async () => {
@@ -171,7 +181,7 @@ export class ValueTable {
       const at = ["", ...(this.page?.columns ?? []).map((column) => column.name)].indexOf(name ?? "");
       byId("table-head").children[at]?.querySelector("button").focus();
     };
-    const head = element("th", { scope: "col", className: NUMBERS.has(type) ? "number" : "" }, button);
+    const head = element("th", { scope: "col", className: classOf(type, isBare) }, button);
     const isSorted = this.order.sort === name;
     head.setAttribute("aria-sort", isSorted ? (this.order.falling ? "descending" : "ascending") : "none");
     return head;
@@ -179,8 +189,8 @@ export class ValueTable {
 
   #row(id, values, at) {
     const cells = values.map((value, column) => {
-      const isNumber = NUMBERS.has(this.page.columns[column].type);
-      return element("td", { className: isNumber ? "number" : "", title: value?.length > 30 ? value : "" }, value ?? "");
+      const className = classOf(this.page.columns[column].type, this.bare[column]);
+      return element("td", { className, title: value?.length > 30 ? value : "" }, value ?? "");
     });
     const row = element("tr", { tabIndex: -1 }, element("td", { className: "number" }, String(id)), ...cells);
     for (const cell of row.children) cell.setAttribute("role", "gridcell");
@@ -238,3 +248,6 @@ export class ValueTable {
     if (this.page && next >= 0 && next < this.page.count) this.show(next, { focus });
   }
 }
+
+/** How the cells of a column stand. */
+const classOf = (type, isBare) => [NUMBERS.has(type) && "number", isBare && "bare"].filter(Boolean).join(" ");

@@ -2,6 +2,8 @@
 
 const DECIMAL = /^([+-]?)([0-9]*)(?:\.([0-9]*))?(?:[eE]([+-]?[0-9]{1,3}))?$/;
 
+const DEGREE = "°";
+
 /** A decimal as a whole number and how many of its digits stand behind the point. */
 function decimal(text) {
   const [, sign, whole, fraction = "", power = "0"] = DECIMAL.exec(text);
@@ -17,6 +19,9 @@ function withPoint(number, digits) {
   return `${number < 0n ? "-" : ""}${text.slice(0, at)}${digits ? `.${text.slice(at)}` : ""}`;
 }
 
+/** The double of a quotient of whole numbers, exact where it is whole: a double of each would be rounded. */
+const quotient = (number, by) => Number(number / by) + Number(number % by) / Number(by);
+
 /** The coordinates of a map: x and y of the origin and the step of its grid, as decimals. */
 export class Units {
   constructor(grid) {
@@ -28,6 +33,7 @@ export class Units {
     /** How long a step is, nearly. */
     this.size = Number(this.step) / 10 ** this.digits;
     this.system = grid?.crs ?? "";
+    this.unit = grid?.unit ?? "";
     this.isMap = Boolean(grid);
   }
 
@@ -50,17 +56,27 @@ export class Units {
       const [most, least] = [Math.max(digits, this.digits), Math.min(digits, this.digits)];
       const scale = 10n ** BigInt(most - least);
       const [ours, theirs] = digits < this.digits ? [1n, scale] : [scale, 1n];
-      return Number(number * theirs - this.origin[axis] * ours) / Number(this.step * ours);
+      return quotient(number * theirs - this.origin[axis] * ours, this.step * ours);
     });
   }
 
   /** A length that was measured in steps, with a digit more than a step has. */
   length(steps) {
-    return (steps * this.size).toLocaleString("en", { maximumFractionDigits: this.digits + 1 });
+    return this.withUnit((steps * this.size).toLocaleString("en", { maximumFractionDigits: this.digits + 1 }));
   }
 
   /** An area that was measured in squared steps. */
   area(squaredSteps) {
-    return (squaredSteps * this.size * this.size).toLocaleString("en", { maximumFractionDigits: this.digits + 1 });
+    return this.withSquaredUnit((squaredSteps * this.size * this.size).toLocaleString("en", { maximumFractionDigits: this.digits + 1 }));
+  }
+
+  /** A length with its unit, where that is known. */
+  withUnit(text) {
+    return this.unit ? `${text} ${this.unit}` : text;
+  }
+
+  /** An area with its unit: one of angles has none. */
+  withSquaredUnit(text) {
+    return this.unit && this.unit !== DEGREE ? `${text} ${this.unit}²` : text;
   }
 }

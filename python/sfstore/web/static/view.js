@@ -8,6 +8,8 @@ const SCALE_MIN = 1e-5;
 const SCALE_MAX = 200;
 // How far a pointer moves before it drags, and does not click.
 const DRAG_PIXELS = 4;
+// At which scale a feature is shown that is a point, or small.
+const FEATURE_SCALE = 500;
 
 /** The window through which the plane is seen. y goes upwards in the plane, downwards in pixels. */
 export class View {
@@ -89,12 +91,19 @@ export class View {
     this.#look(x + (this.x - x) * kept, y + (this.y - y) * kept, scale);
   }
 
-  /** Shows a box with something around it. */
-  fit([left, bottom, right, top]) {
+  /** Shows a box with something around it, at no larger a scale than one to the denominator ``nearest``. */
+  fit([left, bottom, right, top], nearest = 0) {
     const wide = Math.max(right - left, 1) * 1.1;
     const high = Math.max(top - bottom, 1) * 1.1;
-    const scale = Math.min(this.width / wide, this.height / high, SCALE_MAX / 8);
+    // As many pixels for a step as a map of that scale has: of two scales the products with their denominators are the same.
+    const most = nearest ? (this.scale * this.denominator) / nearest : SCALE_MAX;
+    const scale = Math.min(this.width / wide, this.height / high, SCALE_MAX / 8, most);
     this.#look((left + right) / 2, (bottom + top) / 2, Math.max(SCALE_MIN, scale));
+  }
+
+  /** Shows a feature with what is around it: a point, or what is small, as near as the map was seen before, and at least at 1:500. */
+  fitFeature(box) {
+    this.fit(box, Math.min(FEATURE_SCALE, this.denominator));
   }
 
   #look(x, y, scale) {

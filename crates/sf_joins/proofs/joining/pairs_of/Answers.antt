@@ -10,7 +10,7 @@ loop-id-preserved c =
     let e : ℕ × FeatureContent = (c.in-Some.id.now, c.in-Some.feature.now) in
     c.in_ok-push_pairs.ensures
     ∙ ap (λ r. c.loop-id.pairs.items ++ r)
-    (row-by-converse c.args.one c.args.ask.now c.converse-converse.result c.args.second.now e c.valid.result.now c.converse-converse.ensures.nine c.converse-converse.ensures.turned
+    (row-by-converse c.args.one c.args.ask.now c.converse_pair-converse.result c.args.second.now e c.valid.result.now c.converse_pair-converse.ensures.kept c.converse_pair-converse.ensures.turned
     c.valid.ensures.same)
     ∙ ap (λ r. r ++ row c.args.one c.args.ask.now c.args.second.now e) c.loop-id.invariant
     ∙ sym (rows-push (row c.args.one c.args.ask.now c.args.second.now) (deref_pair {K = ℕ} {X = FeatureContent}) c.loop-id.yielded (c.in-Some.id, c.in-Some.feature))

@@ -14,3 +14,8 @@ pub returns-in-OnValues-clause-gives : goal.returns-in-OnValues-clause-gives
 returns-in-OnValues-clause-gives g c =
     subst (λ (f : RuleForm). Gives (λ (s : Says). s) (said c.args.store.now f) (g.R.Read.remaining c.args.reader.now) (g.R.Read.remaining c.said_on_values.new.reader) c.args.window.now c.said_on_values.new.window c.said_on_values.result)
     (sym c.in-OnValues.is) c.said_on_values.ensures.gives
+
+pub returns-in-ByDistance-clause-gives : goal.returns-in-ByDistance-clause-gives
+returns-in-ByDistance-clause-gives g c =
+    subst (λ (f : RuleForm). Gives (λ (s : Says). s) (said c.args.store.now f) (g.R.Read.remaining c.args.reader.now) (g.R.Read.remaining c.said_by_distance.new.reader) c.args.window.now c.said_by_distance.new.window c.said_by_distance.result)
+    (sym c.in-ByDistance.is) c.said_by_distance.ensures.gives

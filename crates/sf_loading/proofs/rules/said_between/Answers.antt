@@ -1,6 +1,6 @@
 use Rattle.std.proofs.lemmas.Result.{err_from_is_err_and}
 use Rattle.sf_layers.specs.Content.{has_layer}
-use Rattle.sf_format.specs.Stored.{OfLayers}
+use Rattle.sf_format.specs.Stored.{Ask, Matrix, OfLayers}
 use Rattle.sf_format.specs.declared.rule_form.RuleForm.TheVariants.{Between}
 use Rattle.sf_format.specs.Readings.{done, field}
 use Rattle.sf_format.specs.Format.{ask, known_layer_name, name, said}
@@ -23,7 +23,7 @@ returns-in_err-ask-clause-gives g c =
     let form = c.args.form in
     let whole = said content (Between form) in
     let one = Goes-then (field name (known_layer_name content)) (said_after_first content form) c.in_ok-first.first _ _ _ _ c.in_ok-first.ensures in
-    rw (p.1, p.2) (Ends-step whole ask (said_after_ask content form c.in_ok-first.first) c.in_err-ask.field-0.0 _ _ _ _ _ one c.in_err-ask.ensures)
+    rw (p.1, p.2) (Ends-step whole ask (λ (asked : Ask). said_after_ask content form c.in_ok-first.first (Matrix asked)) c.in_err-ask.field-0.0 _ _ _ _ _ one c.in_err-ask.ensures)
 
 pub returns-in_err-second-clause-gives : goal.returns-in_err-second-clause-gives
 returns-in_err-second-clause-gives g c =
@@ -32,8 +32,8 @@ returns-in_err-second-clause-gives g c =
     let form = c.args.form in
     let whole = said content (Between form) in
     let one = Goes-then (field name (known_layer_name content)) (said_after_first content form) c.in_ok-first.first _ _ _ _ c.in_ok-first.ensures in
-    let two = Goes-step whole ask (said_after_ask content form c.in_ok-first.first) c.in_ok-ask.ask _ _ _ _ _ _ one c.in_ok-ask.ensures in
-    rw (p.1, p.2) (Ends-step whole (field name (known_layer_name content)) (λ second. done (OfLayers (record { form = form; first = c.in_ok-first.first; ask = c.in_ok-ask.ask; second = second })))
+    let two = Goes-step whole ask (λ (asked : Ask). said_after_ask content form c.in_ok-first.first (Matrix asked)) c.in_ok-ask.ask _ _ _ _ _ _ one c.in_ok-ask.ensures in
+    rw (p.1, p.2) (Ends-step whole (field name (known_layer_name content)) (λ second. done (OfLayers (record { form = form; first = c.in_ok-first.first; ask = Matrix c.in_ok-ask.ask; second = second })))
     c.in_err-second.field-0.0 _ _ _ _ _ two c.in_err-second.ensures)
 
 pub returns-clause-gives : goal.returns-clause-gives
@@ -42,8 +42,8 @@ returns-clause-gives g c =
     let form = c.args.form in
     let whole = said content (Between form) in
     let one = Goes-then (field name (known_layer_name content)) (said_after_first content form) c.in_ok-first.first _ _ _ _ c.in_ok-first.ensures in
-    let two = Goes-step whole ask (said_after_ask content form c.in_ok-first.first) c.in_ok-ask.ask _ _ _ _ _ _ one c.in_ok-ask.ensures in
-    Goes-step whole (field name (known_layer_name content)) (λ second. done (OfLayers (record { form = form; first = c.in_ok-first.first; ask = c.in_ok-ask.ask; second = second })))
+    let two = Goes-step whole ask (λ (asked : Ask). said_after_ask content form c.in_ok-first.first (Matrix asked)) c.in_ok-ask.ask _ _ _ _ _ _ one c.in_ok-ask.ensures in
+    Goes-step whole (field name (known_layer_name content)) (λ second. done (OfLayers (record { form = form; first = c.in_ok-first.first; ask = Matrix c.in_ok-ask.ask; second = second })))
     c.in_ok-second.second _ _ _ _ _ _ two c.in_ok-second.ensures
 
 pub returns-clause-there : goal.returns-clause-there

@@ -3,7 +3,7 @@ use Rattle.sf_rules.specs.Breaks.{least_from}
 use Rattle.sf_rules.specs.Looks.{looked_at}
 use Rattle.sf_rules.specs.Rules.{break_between}
 use Rattle.sf_patches.specs.Patches.{patched}
-use Rattle.sf_query.proofs.QueryLaws.{layer-fits}
+use Rattle.sf_joins.proofs.Passed.{layer-fits}
 use Rattle.sf_rules.proofs.UnderwayLaws.{break-near, missing-near}
 use Rattle.sf_rules.proofs.WholeLaws.{answered}
 use Rattle.sf_rules.proofs.near.break_near_between.Goals as goal

@@ -1,7 +1,7 @@
 use Rattle.std.proofs.Common.{flat_map}
 use Rattle.sf_rules.specs.Looks.{alone_of_entry, pairs_of_entry}
 use Rattle.sf_rules.specs.Rules.{break_between, first_of}
-use Rattle.sf_query.proofs.QueryLaws.{layer-fits}
+use Rattle.sf_joins.proofs.Passed.{layer-fits}
 use Rattle.sf_rules.proofs.MutualLaws.{is-mutual}
 use Rattle.sf_rules.proofs.WholeLaws.{answered, none-leaves, whole-each, whole-never}
 use Rattle.sf_rules.proofs.whole.first_between.Goals as goal

@@ -1,7 +1,7 @@
 use Rattle.std.proofs.Common.{◌++◌, ap, refl}
 use Rattle.byteorder.specs.Endian.{big_bytes}
 use Rattle.sf_format.specs.Stored.{OfLayers}
-use Rattle.sf_format.specs.Canonical.{ask_bytes, behind_length, form_byte, says_bytes}
+use Rattle.sf_format.specs.Canonical.{behind_length, pair_bytes, pair_form_byte, says_bytes}
 use Rattle.sf_streams.proofs.Putting.{Putting-start, Putting-more, breaks, ends-put, ends-broken}
 use Rattle.sf_saving.proofs.rules.put_between.Goals as goal
 
@@ -9,52 +9,52 @@ pub returns-in_err-put_u8-clause-broken : goal.returns-in_err-put_u8-clause-brok
 returns-in_err-put_u8-clause-broken g c =
     let rule = c.args.rule.now in
     let t3 = behind_length 1 rule.second in
-    let t2 = ask_bytes rule.ask ++ t3 in
+    let t2 = pair_bytes rule.ask ++ t3 in
     let t1 = behind_length 1 rule.first ++ t2 in
     let start = Putting-start (g.W.Write.contents c.args.writer.now) c.args.output.now (says_bytes (OfLayers rule)) in
-    breaks c.from_residual.result (big_bytes 1 (form_byte rule.form)) t1 (ap (big_bytes 1) c.form_byte.ensures) start c.in_err-put_u8.ensures.broken
+    breaks c.from_residual.result (big_bytes 1 (pair_form_byte rule.ask rule.form)) t1 (ap (big_bytes 1) c.form_byte.ensures) start c.in_err-put_u8.ensures.broken
 
 pub returns-in_err-put_name-clause-broken : goal.returns-in_err-put_name-clause-broken
 returns-in_err-put_name-clause-broken g c =
     let rule = c.args.rule.now in
     let t3 = behind_length 1 rule.second in
-    let t2 = ask_bytes rule.ask ++ t3 in
+    let t2 = pair_bytes rule.ask ++ t3 in
     let t1 = behind_length 1 rule.first ++ t2 in
     let start = Putting-start (g.W.Write.contents c.args.writer.now) c.args.output.now (says_bytes (OfLayers rule)) in
-    let one = Putting-more (big_bytes 1 (form_byte rule.form)) t1 (ap (big_bytes 1) c.form_byte.ensures) start c.in_ok-put_u8.ensures.ok in
+    let one = Putting-more (big_bytes 1 (pair_form_byte rule.ask rule.form)) t1 (ap (big_bytes 1) c.form_byte.ensures) start c.in_ok-put_u8.ensures.ok in
     breaks c.from_residual-in_err-put_name.result (behind_length 1 rule.first) t2 (ap (behind_length 1) c.as_str.ensures) one c.in_err-put_name.ensures.broken
 
-pub returns-in_err-put_ask-clause-broken : goal.returns-in_err-put_ask-clause-broken
-returns-in_err-put_ask-clause-broken g c =
+pub returns-in_err-put_pair_ask-clause-broken : goal.returns-in_err-put_pair_ask-clause-broken
+returns-in_err-put_pair_ask-clause-broken g c =
     let rule = c.args.rule.now in
     let t3 = behind_length 1 rule.second in
-    let t2 = ask_bytes rule.ask ++ t3 in
+    let t2 = pair_bytes rule.ask ++ t3 in
     let t1 = behind_length 1 rule.first ++ t2 in
     let start = Putting-start (g.W.Write.contents c.args.writer.now) c.args.output.now (says_bytes (OfLayers rule)) in
-    let one = Putting-more (big_bytes 1 (form_byte rule.form)) t1 (ap (big_bytes 1) c.form_byte.ensures) start c.in_ok-put_u8.ensures.ok in
+    let one = Putting-more (big_bytes 1 (pair_form_byte rule.ask rule.form)) t1 (ap (big_bytes 1) c.form_byte.ensures) start c.in_ok-put_u8.ensures.ok in
     let two = Putting-more (behind_length 1 rule.first) t2 (ap (behind_length 1) c.as_str.ensures) one c.in_ok-put_name.ensures.ok in
-    breaks c.from_residual-in_err-put_ask.result (ask_bytes rule.ask) t3 refl two c.in_err-put_ask.ensures.broken
+    breaks c.from_residual-in_err-put_pair_ask.result (pair_bytes rule.ask) t3 refl two c.in_err-put_pair_ask.ensures.broken
 
 pub returns-clause-ok : goal.returns-clause-ok
 returns-clause-ok g c =
     let rule = c.args.rule.now in
     let t3 = behind_length 1 rule.second in
-    let t2 = ask_bytes rule.ask ++ t3 in
+    let t2 = pair_bytes rule.ask ++ t3 in
     let t1 = behind_length 1 rule.first ++ t2 in
     let start = Putting-start (g.W.Write.contents c.args.writer.now) c.args.output.now (says_bytes (OfLayers rule)) in
-    let one = Putting-more (big_bytes 1 (form_byte rule.form)) t1 (ap (big_bytes 1) c.form_byte.ensures) start c.in_ok-put_u8.ensures.ok in
+    let one = Putting-more (big_bytes 1 (pair_form_byte rule.ask rule.form)) t1 (ap (big_bytes 1) c.form_byte.ensures) start c.in_ok-put_u8.ensures.ok in
     let two = Putting-more (behind_length 1 rule.first) t2 (ap (behind_length 1) c.as_str.ensures) one c.in_ok-put_name.ensures.ok in
-    let three = Putting-more (ask_bytes rule.ask) t3 refl two c.in_ok-put_ask.ensures.ok in
+    let three = Putting-more (pair_bytes rule.ask) t3 refl two c.in_ok-put_pair_ask.ensures.ok in
     ends-put c.put_name-2.result _ _ t3 (ap (behind_length 1) c.as_str-2.ensures) three c.put_name-2.ensures.ok
 
 pub returns-clause-broken : goal.returns-clause-broken
 returns-clause-broken g c =
     let rule = c.args.rule.now in
     let t3 = behind_length 1 rule.second in
-    let t2 = ask_bytes rule.ask ++ t3 in
+    let t2 = pair_bytes rule.ask ++ t3 in
     let t1 = behind_length 1 rule.first ++ t2 in
     let start = Putting-start (g.W.Write.contents c.args.writer.now) c.args.output.now (says_bytes (OfLayers rule)) in
-    let one = Putting-more (big_bytes 1 (form_byte rule.form)) t1 (ap (big_bytes 1) c.form_byte.ensures) start c.in_ok-put_u8.ensures.ok in
+    let one = Putting-more (big_bytes 1 (pair_form_byte rule.ask rule.form)) t1 (ap (big_bytes 1) c.form_byte.ensures) start c.in_ok-put_u8.ensures.ok in
     let two = Putting-more (behind_length 1 rule.first) t2 (ap (behind_length 1) c.as_str.ensures) one c.in_ok-put_name.ensures.ok in
-    let three = Putting-more (ask_bytes rule.ask) t3 refl two c.in_ok-put_ask.ensures.ok in
+    let three = Putting-more (pair_bytes rule.ask) t3 refl two c.in_ok-put_pair_ask.ensures.ok in
     ends-broken c.put_name-2.result _ t3 (ap (behind_length 1) c.as_str-2.ensures) three c.put_name-2.ensures.broken

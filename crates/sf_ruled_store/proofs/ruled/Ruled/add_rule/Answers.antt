@@ -1,7 +1,10 @@
-use Rattle.std.proofs.Common.{IfErr, subst}
-use Rattle.sf_ruled_store.specs.Outcomes.{IsRefusedAs}
-use Rattle.sf_ruled_store.specs.Ruled.{AddRule, ruled_step}
+use Rattle.std.proofs.Common.{sym, subst}
+use Rattle.sf_ruled_store.specs.Outcomes.{ruled}
+use Rattle.sf_ruled_store.specs.Undos.{IsSettled}
+use Rattle.sf_ruled_store.proofs.TurnLaws.{added-settled}
 use Rattle.sf_ruled_store.proofs.ruled.Ruled.add_rule.Goals as goal
 
-pub returns-clause-refused : goal.returns-clause-refused
-returns-clause-refused c = subst (λ old. IfErr c.add_looked_up.result (λ e. IsRefusedAs (ruled_step old (AddRule c.args.rule)) e.1)) c.make_index.ensures c.add_looked_up.ensures.refused
+pub invariant_of-self-2 : goal.invariant_of-self-2
+invariant_of-self-2 c =
+    subst (λ rules. IsSettled (ruled c.self.inside.store rules)) (sym c.in_ok-add.ensures.added)
+    (added-settled c.self.inside.store c.self.inside.rules c.args.rule _ c.self.invariant c.in_ok-add.ensures.accepted)

@@ -1,6 +1,0 @@
-use Rattle.std.proofs.Common.{option_copied}
-use Rattle.sf_console.proofs.LookupLemmas.{column-at}
-use Rattle.sf_console.proofs.finding.column_of.Goals as goal
-
-pub returns-in-Some : goal.returns-in-Some
-returns-in-Some c = column-at c.args.layer.now c.args.name.now c.in-Some.place (option_copied c.column_at.result) c.in-Some.ensures.there c.in-Some.ensures.found c.column_at.ensures

@@ -1,0 +1,4 @@
+pub mod Members
+pub mod CoverLaws
+pub mod NearLaws
+pub mod Computed

@@ -1,0 +1,509 @@
+"""Tests inside of QGIS of what it asks a store, which `test_qgis` starts: expressions, and algorithms of the toolbox."""
+
+from __future__ import annotations
+
+import os
+import re
+import signal
+import threading
+import time
+import unittest
+from unittest import mock
+
+from qgis.core import (
+    QgsApplication,
+    QgsCoordinateReferenceSystem,
+    QgsCoordinateTransform,
+    QgsExpression,
+    QgsExpressionContext,
+    QgsExpressionContextUtils,
+    QgsFeature,
+    QgsField,
+    QgsGeometry,
+    QgsMapRendererParallelJob,
+    QgsMapSettings,
+    QgsPalLayerSettings,
+    QgsPointXY,
+    QgsProcessingAlgRunnerTask,
+    QgsProcessingContext,
+    QgsProcessingException,
+    QgsProcessingFeatureSourceDefinition,
+    QgsProcessingFeedback,
+    QgsProject,
+    QgsRectangle,
+    QgsVectorLayer,
+    QgsVectorLayerSimpleLabeling,
+)
+from qgis.PyQt.QtCore import NULL, QSize, QVariant
+from qgis_support import CROSSED, SQUARE, Plugin, QgisCase, Window
+
+from support import FOLDER
+
+from sfstore_qgis import measures
+from sfstore_qgis.asking import Asking
+from sfstore_qgis.functions import PAGES
+
+# On a grid of 0.1 from 500000, 5600000: a right triangle, a square, and the least triangle there is.
+LINES = b"""layer add parcels polygon
+column add parcels number int
+layer add wells point
+layer add pipes linestring
+layer add valves point
+add parcels POLYGON ((0 0, 300 0, 300 400, 0 0))
+add parcels POLYGON ((1000 0, 1100 0, 1100 100, 1000 100, 1000 0))
+add parcels POLYGON ((2000 0, 2001 0, 2000 1, 2000 0))
+set parcels 1 number 7
+add wells POINT (300 500)
+add wells POINT (1050 50)
+add wells POINT (1050 170)
+add pipes LINESTRING (0 1000, 100 1000)
+add pipes LINESTRING (100 1000, 200 1000)
+add pipes LINESTRING (200 1000, 300 1000)
+add pipes LINESTRING (500 1000, 600 1000)
+add valves POINT (200 1000)
+"""
+# The triangle with its top 10 m higher: 300 by 500 steps.
+TALLER = "POLYGON((500000 5600000, 500030 5600000, 500030 5600050, 500000 5600000))"
+
+
+class Expressions(QgisCase):
+    """What expressions ask."""
+
+    lines = LINES
+
+    def asked(self, text, number=None, layer=None):
+        """What an expression gives of a feature, or the error in its place."""
+        layer = layer or self.layer()
+        context = QgsExpressionContext(QgsExpressionContextUtils.globalProjectLayerScopes(layer))
+        if number is not None:
+            context.setFeature(layer.getFeature(self.fid(number, layer)))
+        expression = QgsExpression(text)
+        expression.prepare(context)
+        found = expression.evaluate(context)
+        return expression.evalErrorString() or expression.parserErrorString() or found
+
+    def test_areas_and_lengths_are_the_stores(self):
+        self.assertEqual([self.asked("sfstore_area()", number) for number in (1, 2, 3)], [600.0, 100.0, 0.005])
+        # 2 and the root of 2 is 3.41421, rounded down to a thousandth of a step.
+        self.assertEqual([self.asked("sfstore_length()", number) for number in (1, 2, 3)], [120.0, 40.0, 0.3414])
+        self.assertEqual(self.asked("sfstore_length()", 1, self.layer("pipes")), 10.0)
+        self.assertEqual(self.asked("sfstore_area('parcels', 2)", 1, self.layer("wells")), 100.0)
+        key = self.layer().id()
+        self.assertEqual(self.asked(f"sfstore_area(layer:='{key}', id:=\"_id\")", 2), 100.0)
+
+    def test_many_are_asked_at_a_time(self):
+        wells = self.layer("wells")
+        with mock.patch("sfstore_qgis.asking.Asking.exchange", autospec=True, side_effect=Asking.exchange) as exchanged:
+            for _ in range(2):
+                self.assertEqual([self.asked("sfstore_area()", number) for number in (1, 2, 3)], [600.0, 100.0, 0.005])
+            self.assertEqual(exchanged.call_count, 1)
+            self.assertEqual(self.asked("sfstore_area()", 1, wells), 0.0)
+            self.assertEqual(exchanged.call_count, 2)
+
+    def test_distances_and_what_is_near(self):
+        wells = self.layer("wells")
+        distances = [self.asked("sfstore_distance('parcels', 1, $geometry)", number, wells) for number in (1, 2)]
+        # The second one is 75 m to the right.
+        self.assertEqual(distances, [10.0, 75.0])
+        self.assertEqual(self.asked("sfstore_distance('parcels', 2, $geometry)", 2, wells), 0.0)
+        # The side from (0 0) to (300 400) goes by (0 100) at 3/5 of it.
+        self.assertEqual(self.asked("sfstore_distance('parcels', 1, make_point(500000, 5600010))"), 6.0)
+        near = "sfstore_near('wells', {}, $geometry)"
+        self.assertEqual([self.asked(near.format(far), 2) for far in ("0", "6.9999", "7")], [[2], [2], [2, 3]])
+        nearest = "sfstore_nearest('wells', {}, $geometry)"
+        self.assertEqual([self.asked(nearest.format(count), 2) for count in (1, 3)], [[2], [2, 3, 1]])
+
+    def test_a_geometry_is_moved_to_the_grid(self):
+        moved = self.asked("sfstore_on_grid('wells', geom_from_wkt('LineStringZ(500000.04 5600000.06 3, 500010 5600010 4)'))")
+        self.assertEqual(moved.asWkt(1), "LineString (500000 5600000.1, 500010 5600010)")
+        self.assertEqual(self.asked("sfstore_distance('wells', 1, sfstore_on_grid('wells', make_point(500030.04, 5600047.96)))"), 2.0)
+        self.assertEqual(self.asked("sfstore_on_grid('wells', 5)"), "Take a geometry, such as $geometry.")
+
+    def test_what_is_not_there_is_no_value(self):
+        for text in ("sfstore_area('parcels', NULL)", "sfstore_area(NULL, 1)", "sfstore_area(\"number\", \"number\")", "sfstore_distance('parcels', 1, NULL)"):
+            self.assertIn(self.asked(text, 2), (None, NULL), text)
+
+    def test_what_can_not_be_answered_is_an_error_in_words(self):
+        other = QgsVectorLayer("Point?field=a:int", "other", "memory")
+        QgsProject.instance().addMapLayer(other)
+        self.assertEqual(
+            self.asked("sfstore_area()", layer=other), "Ask of a layer of a store: this one is none, or is not in the project."
+        )
+        self.assertEqual(self.asked("sfstore_area()"), "Ask of a feature: there is none here.")
+        for text, said in (
+            ("sfstore_area('nix', 1)", "Take another name than 'nix': the project has no layer of a store with this name."),
+            ("sfstore_area('other', 1)", "Take another name than 'other': the project has no layer of a store with this name."),
+            ("sfstore_area('parcels', 9)", "Look again: the feature is not there any more. (21 NoFeature)"),
+            ("sfstore_area('parcels', 1.5)", "Take a whole number from 0 to 4,294,967,295 for id: 1.5 is none."),
+            ("sfstore_area('parcels', 'one')", "Take a number for id: 'one' is none."),
+            ("sfstore_nearest('wells', 0, $geometry)", "Take a whole number from 1 to 1,000 for count: 0 is none."),
+            ("sfstore_distance('wells', 1, 'POINT (1 2)')", "Take a geometry, such as $geometry."),
+            (
+                "sfstore_distance('wells', 1, make_point(500000.05, 5600000))",
+                "Move it to the grid first, as sfstore_on_grid does it: x 500000.05 of point 0, between 500000.0 and 500000.1.",
+            ),
+            (
+                "sfstore_distance('wells', 1, make_point(1000000000, 0))",
+                "Ask nearer to the map: x 1000000000.0 of point 0 is further from the origin of the grid than the store reaches.",
+            ),
+            (
+                "sfstore_near('wells', 0.00001, $geometry)",
+                "Take another distance: the distance 0.00001 is no whole number of thousandths of a grid step; 0 and 0.0001 are.",
+            ),
+            (
+                "sfstore_distance('wells', 1, geom_from_wkt('POLYGON((500000 5600000, 500001 5600001, 500001 5600000, 500000 5600001, 500000 5600000))'))",
+                "Move or remove a corner: the border meets itself. (13 RingNotSimple)",
+            ),
+        ):
+            self.assertEqual(self.asked(text, 1), said)
+
+    def test_of_layers_with_one_name_none_is_taken(self):
+        twice = self.layer("wells").clone()
+        QgsProject.instance().addMapLayer(twice)
+        self.assertEqual(self.asked("sfstore_area('wells', 1)"), "Take another name than 'wells': several layers of stores have this name.")
+        twice.setName("again")
+        self.assertEqual(self.asked("sfstore_area('wells', 1)"), 0.0)
+        self.assertEqual(self.asked("sfstore_area('again', 1)"), 0.0)
+
+    def test_what_was_not_saved_is_no_number(self):
+        parcels, fid = self.layer(), self.fid(1)
+        self.assertEqual(self.asked("sfstore_area()", 1), 600.0)
+        parcels.startEditing()
+        self.set(1, "number", 8)
+        self.assertEqual(self.asked("sfstore_area()", 1), 600.0)
+        parcels.changeGeometry(fid, QgsGeometry.fromWkt(TALLER))
+        said = "Save your edits first: parcels 1 has another geometry here than in the store, or was deleted."
+        wells = self.layer("wells")
+        self.assertEqual(self.asked("sfstore_area()", 1), said)
+        self.assertEqual(self.asked("sfstore_distance('parcels', 1, $geometry)", 1, wells), said)
+        self.assertEqual(self.asked("sfstore_near('parcels', 1, $geometry)", 1, wells), "Save your edits first: parcels has other geometries here than in the store.")
+        self.assertEqual(self.asked("sfstore_area()", 2), 100.0)
+        parcels.undoStack().undo()
+        self.assertEqual(self.asked("sfstore_area()", 1), 600.0)
+        parcels.undoStack().redo()
+        self.assertEqual(self.asked("sfstore_area()", 1), said)
+        self.assertTrue(parcels.commitChanges(), parcels.commitErrors())
+        self.assertEqual(self.asked("sfstore_area()", 1), 750.0)
+        parcels.startEditing()
+        parcels.deleteFeature(fid)
+        self.assertEqual(self.asked("sfstore_area('parcels', 1)", 2), said)
+        parcels.rollBack()
+        self.assertEqual(self.asked("sfstore_area('parcels', 1)", 2), 750.0)
+
+    def test_a_new_feature_has_no_number_before_it_is_saved(self):
+        parcels = self.layer()
+        parcels.startEditing()
+        self.draw(TALLER)
+        [fid] = parcels.editBuffer().addedFeatures()
+        context = QgsExpressionContext(QgsExpressionContextUtils.globalProjectLayerScopes(parcels))
+        context.setFeature(parcels.getFeature(fid))
+        asked = QgsExpression("sfstore_area()")
+        asked.evaluate(context)
+        self.assertEqual(asked.evalErrorString(), "Save it first: the store of parcels does not have this feature yet.")
+        self.assertTrue(parcels.commitChanges(), parcels.commitErrors())
+        self.assertEqual(self.asked("sfstore_area()", 4), 750.0)
+
+    def test_what_others_change_is_seen(self):
+        ben = self.ben()
+        self.assertEqual(self.asked("sfstore_area()", 1), 600.0)
+        self.bens(ben, "replace parcels 1 POLYGON ((0 0, 300 0, 300 500, 0 0))")
+        self.assertEqual(self.asked("sfstore_area()", 1), 750.0)
+        self.plugin.tried(lambda: self.session.line("undo"))
+        self.bens(ben, "delete parcels 2")
+        self.assertEqual(self.asked("sfstore_area()", 1), 750.0)
+
+    def test_one_that_was_deleted_beside_it_is_no_matter(self):
+        ben = self.ben()
+        with mock.patch.object(self.session, "_hear"):
+            ben.call("batch", page="ben", lines=["delete parcels 2"], seen=[ben.call("map")["version"]])
+            self.assertEqual(self.asked("sfstore_area()", 1), 600.0)
+            self.assertEqual(self.asked("sfstore_area()", 2), "Look again: the feature is not there any more. (21 NoFeature)")
+
+    def test_a_server_that_was_killed_is_asked_again(self):
+        self.assertEqual(self.asked("sfstore_area()", 1), 600.0)
+        for is_asked_meanwhile in (True, False):
+            self.server().kill()
+            self.server().wait()
+            if is_asked_meanwhile:
+                self.assertRegex(self.asked("sfstore_length()", 1), "^Wait a moment: ")
+            self.wait_for(lambda: not self.session.is_connected)
+            self.wait_for(lambda: self.session.is_connected)
+            self.assertEqual(self.asked("sfstore_length()", 1), 120.0)
+
+    def test_one_that_hangs_is_not_asked_for_each_feature(self):
+        self.assertEqual(self.asked("sfstore_area()", 1), 600.0)
+        server = self.server().pid
+        with mock.patch.object(measures, "_SECONDS", 0.5):
+            os.kill(server, signal.SIGSTOP)
+            self.addCleanup(os.kill, server, signal.SIGCONT)
+            self.plugin.functions.leave(self.session.path)
+            begun = time.monotonic()
+            for _ in range(20):
+                self.assertRegex(self.asked("sfstore_length()", 1), "^Wait a moment: ")
+            self.assertLess(time.monotonic() - begun, 5)
+            os.kill(server, signal.SIGCONT)
+            self.plugin.functions._of(self.session)._silent_until = 0.0
+            self.wait_for(lambda: self.asked("sfstore_length()", 1) == 120.0)
+
+    def test_features_are_selected_and_labelled_by_them(self):
+        parcels = self.layer()
+        parcels.selectByExpression("sfstore_area() > 50")
+        self.assertEqual(sorted(feature["_id"] for feature in parcels.selectedFeatures()), [1, 2])
+        settings = QgsPalLayerSettings()
+        settings.fieldName, settings.isExpression = "sfstore_area()", True
+        parcels.setLabeling(QgsVectorLayerSimpleLabeling(settings))
+        parcels.setLabelsEnabled(True)
+        threads = set()
+        answer = self.plugin.functions._measure
+
+        def measured(*words):
+            threads.add(threading.current_thread())
+            return answer(*words)
+
+        with mock.patch.object(self.plugin.functions._functions[0], "_answer", lambda *words: measured("area", *words)):
+            labels = self.drawn(parcels)
+        self.assertEqual(labels, ["0.005", "100", "600"])
+        self.assertNotIn(threading.main_thread(), threads)
+
+    def test_a_field_is_computed_by_them(self):
+        parcels = self.layer()
+        parcels.addExpressionField("sfstore_area()", QgsField("exact", QVariant.Double))
+        self.assertEqual([self.feature(number)["exact"] for number in (1, 2, 3)], [600.0, 100.0, 0.005])
+        parcels.startEditing()
+        parcels.changeGeometry(self.fid(1), QgsGeometry.fromWkt(TALLER))
+        self.assertEqual([self.feature(number)["exact"] for number in (1, 2, 3)], [NULL, 100.0, 0.005])
+        self.assertTrue(parcels.commitChanges(), parcels.commitErrors())
+        self.assertEqual([self.feature(number)["exact"] for number in (1, 2, 3)], [750.0, 100.0, 0.005])
+
+    def drawn(self, layer):
+        """The labels of a layer, as a map has them that threads draw."""
+        settings = QgsMapSettings()
+        settings.setLayers([layer])
+        settings.setOutputSize(QSize(800, 600))
+        settings.setDestinationCrs(layer.crs())
+        settings.setExtent(QgsRectangle(499990, 5599960, 500220, 5600080))
+        job = QgsMapRendererParallelJob(settings)
+        job.start()
+        self.wait_for(lambda: not job.isActive())
+        results = job.takeLabelingResults()
+        return sorted(label.labelText for label in results.labelsWithinRect(settings.visibleExtent()))
+
+    def test_functions_go_with_the_plugin(self):
+        for name in PAGES:
+            self.assertTrue(QgsExpression.isFunctionName(name))
+            function = QgsExpression.Functions()[QgsExpression.functionIndex(name)]
+            self.assertEqual(function.group(), "sfstore")
+            self.assertIn(f"function {name}", function.helpText())
+            for parameter in function.parameters():
+                self.assertIn(parameter.name(), function.helpText())
+        self.plugin.unload()
+        for name in PAGES:
+            self.assertFalse(QgsExpression.isFunctionName(name))
+        self.plugin = Plugin(Window())
+        self.plugin.initGui()
+        self.assertEqual(self.asked("sfstore_area()", 1), 600.0)
+
+
+class Examples(QgisCase):
+    """What the page and the help of the functions say, in the town."""
+
+    def test_each_can_be_asked(self):
+        page = (FOLDER.parent / "docs" / "use" / "QGIS.md").read_text(encoding="utf-8")
+        texts = re.findall(r"`([^`\n]*sfstore_[a-z_]+\([^`\n]*)`", page)
+        self.assertEqual(set(PAGES), {name for text in texts for name in re.findall(r"sfstore_[a-z_]+", text)})
+        parcels = self.layer()
+        context = QgsExpressionContext(QgsExpressionContextUtils.globalProjectLayerScopes(parcels))
+        context.setFeature(parcels.getFeature(self.fid(1)))
+        for text in [*texts, *(page.example for page in PAGES.values())]:
+            expression = QgsExpression(text)
+            self.assertNotIn(expression.evaluate(context), (None, NULL), text)
+            self.assertEqual(expression.evalErrorString() + expression.parserErrorString(), "", text)
+
+
+class Algorithms(QgisCase):
+    """What the toolbox asks."""
+
+    lines = LINES
+
+    def setUp(self):
+        super().setUp()
+        self.context, self.feedback = QgsProcessingContext(), QgsProcessingFeedback()
+        self.context.setProject(QgsProject.instance())
+
+    def begun(self, name, **parameters):
+        """An algorithm with what it is asked, checked as its dialog does it."""
+        algorithm = QgsApplication.processingRegistry().createAlgorithmById(f"sfstore:{name}")
+        is_fit, why = algorithm.checkParameterValues(parameters, self.context)
+        self.assertTrue(is_fit, why)
+        return algorithm
+
+    def results(self, name, **parameters):
+        """What an algorithm gives."""
+        results, is_done = self.begun(name, **parameters).run(parameters, self.context, self.feedback, {}, False)
+        self.assertTrue(is_done)
+        return results
+
+    def refused(self, name, **parameters):
+        """Why an algorithm gives nothing: what it raises in the thread that carries it out, or reports before."""
+        feedback = QgsProcessingFeedback()
+        try:
+            results, is_done = self.begun(name, **parameters).run(parameters, self.context, feedback, {}, False)
+        except QgsProcessingException as refused:
+            return str(refused)
+        self.assertEqual((results, is_done), ({}, False))
+        return feedback.textLog().strip()
+
+    def rows(self, results):
+        """The features of the layer that an algorithm has made, as lists of their values."""
+        layer = self.context.takeResultLayer(results["OUTPUT"])
+        self.assertEqual(layer.crs(), self.session.crs)
+        return layer.fields().names(), [(feature.geometry().asWkt(), *feature.attributes()) for feature in layer.getFeatures()]
+
+    def selected(self, name):
+        return sorted(feature["_id"] for feature in self.layer(name).selectedFeatures())
+
+    def test_features_within_a_distance_of_a_selected_one(self):
+        parcels, wells = self.layer(), self.layer("wells")
+        parcels.selectByIds([self.fid(2)])
+        chosen = QgsProcessingFeatureSourceDefinition(parcels.id(), True)
+        for far, found in ((6.9999, [2]), (7.0, [2, 3])):
+            results = self.results("near", LAYER=wells.id(), FROM=chosen, DISTANCE=far)
+            self.assertEqual((results, self.selected("wells")), ({"COUNT": len(found)}, found))
+        # All parcels: the first one is 10 m from its well.
+        results = self.results("near", LAYER=wells.id(), FROM=parcels.id(), DISTANCE=10, SELECT=False, OUTPUT="TEMPORARY_OUTPUT")
+        self.assertEqual(results["COUNT"], 3)
+        names, rows = self.rows(results)
+        self.assertEqual(names, ["_id"])
+        self.assertEqual(rows[0], ("Point (500030 5600050)", 1))
+        self.assertEqual(self.selected("wells"), [2, 3])
+
+    def test_what_is_near_a_point_of_another_reference_system_is_moved_to_the_grid(self):
+        here = QgsCoordinateReferenceSystem("EPSG:25832")
+        there = QgsCoordinateTransform(here, QgsCoordinateReferenceSystem("EPSG:4326"), QgsProject.instance()).transform(QgsPointXY(500030.04, 5600050.02))
+        point = f"{there.x()!r},{there.y()!r} [EPSG:4326]"
+        self.results("near", LAYER=self.layer("wells").id(), POINT=point, DISTANCE=0)
+        self.assertEqual(self.selected("wells"), [1])
+        self.assertIn("2 coordinates were moved to the grid, by 0.04 at most.", self.feedback.textLog())
+
+    def test_nearest_features_with_their_distances(self):
+        parcels, wells = self.layer(), self.layer("wells")
+        results = self.results("nearest", LAYER=parcels.id(), FROM=wells.id(), NUMBER=2, OUTPUT="TEMPORARY_OUTPUT")
+        names, rows = self.rows(results)
+        self.assertEqual(names, ["_id", "number", "_distance", "_from"])
+        self.assertEqual(rows[0], ("Polygon ((500000 5600000, 500030 5600000, 500030 5600040, 500000 5600000))", 1, 7, 10.0, 1))
+        # From the first well the square is 700 steps to the right and 400 down, from the third one the triangle 750 to the left.
+        found = [(number, distance, of) for _, number, _, distance, of in rows]
+        self.assertEqual(found, [(1, 10.0, 1), (2, 80.6225, 1), (2, 0.0, 2), (1, 75.0, 2), (2, 7.0, 3), (1, 75.0, 3)])
+        self.assertEqual(self.selected("parcels"), [1, 2])
+        results = self.results("nearest", LAYER=wells.id(), POINT="500100,5600000", OUTPUT="TEMPORARY_OUTPUT")
+        self.assertEqual([row[1:] for row in self.rows(results)[1]], [(2, 7.071, NULL)])
+
+    def test_what_a_network_reaches(self):
+        pipes, valves = self.layer("pipes"), self.layer("valves")
+        pipes.selectByIds([self.fid(1, pipes)])
+        results = self.results("reach", LAYER=pipes.id(), OUTPUT="TEMPORARY_OUTPUT")
+        self.assertEqual((results["COUNT"], self.selected("pipes")), (3, [1, 2, 3]))
+        self.assertEqual(len(self.rows(results)[1]), 3)
+        self.results("reach", LAYER=pipes.id(), IDS="1", UNTIL=valves.id())
+        self.assertEqual(self.selected("pipes"), [1, 2])
+        self.results("reach", LAYER=pipes.id(), IDS="4, 3", ASK="crosses")
+        self.assertEqual(self.selected("pipes"), [3, 4])
+
+    def test_what_is_canceled_selects_nothing(self):
+        wells = self.layer("wells")
+        wells.selectByIds([self.fid(1, wells)])
+        self.feedback.cancel()
+        self.assertEqual(self.results("near", LAYER=wells.id(), FROM=self.layer().id(), DISTANCE=10), {})
+        self.assertEqual(self.selected("wells"), [1])
+
+    def test_of_a_layer_of_any_kind_the_others_are_told(self):
+        self.session.line("layer add map any")
+        self.session.line("add map POINT (0 0)")
+        self.session.line("add map LINESTRING (0 0, 9 9)")
+        self.plugin.open(str(self.path))
+        results = self.results("near", LAYER=self.layer("map (point)").id(), POINT="500000,5600000", DISTANCE=1)
+        self.assertEqual(results, {"COUNT": 1})
+        self.assertIn("1 more are of a kind that this layer does not show, or have come just now.", self.feedback.textLog())
+
+    def test_what_can_not_be_asked_is_told_in_words(self):
+        parcels, pipes = self.layer(), self.layer("pipes")
+        other = QgsVectorLayer("Polygon?crs=EPSG:25832", "other", "memory")
+        crossed = QgsFeature()
+        crossed.setGeometry(QgsGeometry.fromWkt(CROSSED))
+        other.dataProvider().addFeature(crossed)
+        QgsProject.instance().addMapLayer(other)
+        near = {"LAYER": parcels.id(), "DISTANCE": 1}
+        for said, name, asked in (
+            ("Choose a layer of a store: no other one can be asked.", "near", {**near, "LAYER": other.id()}),
+            ("Choose a layer, or a point on the map.", "near", near),
+            ("Move or remove a corner: the border meets itself at (500523.33 5600053.33). (13 RingNotSimple)", "near", {**near, "FROM": other.id()}),
+            ("Ask nearer to the map: x 1000000000.0 of point 0 is further from the origin of the grid than the store reaches.", "near", {**near, "POINT": "1000000000,0"}),
+            (
+                "Take another distance: the distance 0.00001 is no whole number of thousandths of a grid step; 0 and 0.0001 are.",
+                "near",
+                {"LAYER": parcels.id(), "DISTANCE": 0.00001, "POINT": "500000,5600000"},
+            ),
+            ("Select from 1 to 1,000 features where it begins: 0 are selected.", "reach", {"LAYER": pipes.id()}),
+            ("Take whole numbers up to 4,294,967,295, with commas between them, for where it begins.", "reach", {"LAYER": pipes.id(), "IDS": "1, -2"}),
+            ("Look again: the feature is not there any more. (21 NoFeature)", "reach", {"LAYER": pipes.id(), "IDS": "9"}),
+            ("Take whole numbers up to 4,294,967,295, with commas between them, for where it begins.", "reach", {"LAYER": pipes.id(), "IDS": "99999999999"}),
+            ("Choose a layer of a store: no other one can be asked.", "reach", {"LAYER": pipes.id(), "IDS": "1", "UNTIL": other.id()}),
+        ):
+            self.assertEqual(self.refused(name, **asked), said)
+        parcels.startEditing()
+        self.draw(SQUARE)
+        self.assertEqual(
+            self.refused("near", **near), "Save your edits of parcels first, or take them back: the store does not have them yet."
+        )
+
+    def test_layers_of_two_stores_make_no_network(self):
+        other = self.folder / "other.sfs"
+        self.make(b"layer add taps point\nadd taps POINT (200 1000)\n", other)
+        self.place(other)
+        self.plugin.open(str(other))
+        said = self.refused("reach", LAYER=self.layer("pipes").id(), IDS="1", UNTIL=self.layer("taps").id())
+        self.assertEqual(said, "Choose a layer of the same store: no other one can be asked with it.")
+
+    def test_qgis_goes_on_while_a_question_takes_its_time(self):
+        wells = self.layer("wells")
+        parameters = {"LAYER": wells.id(), "POINT": "500105,5600005", "NUMBER": 2, "OUTPUT": "TEMPORARY_OUTPUT"}
+        algorithm = self.begun("nearest", **parameters)
+        may_answer, threads, results = threading.Event(), [], []
+
+        def slow(link, lines, exchange=Asking.exchange):
+            threads.append(threading.current_thread())
+            may_answer.wait(30)
+            return exchange(link, lines)
+
+        with mock.patch("sfstore_qgis.asking.Asking.exchange", slow):
+            task = QgsProcessingAlgRunnerTask(algorithm, parameters, self.context, self.feedback)
+            task.executed.connect(lambda *told: results.append(told))
+            QgsApplication.taskManager().addTask(task)
+            self.wait_for(lambda: threads)
+            wells.startEditing()
+            wells.changeGeometry(self.fid(2, wells), QgsGeometry.fromWkt("POINT(500106 5600006)"))
+            self.assertTrue(wells.commitChanges(), wells.commitErrors())
+            may_answer.set()
+            self.wait_for(lambda: results)
+        self.assertNotIn(threading.main_thread(), threads)
+        [[is_done, told]] = results
+        self.assertTrue(is_done)
+        self.assertEqual(told["COUNT"], 2)
+        self.assertEqual(self.selected("wells"), [2, 3])
+
+    def test_the_toolbox_goes_with_the_plugin(self):
+        registry = QgsApplication.processingRegistry()
+        toolbox = registry.providerById("sfstore")
+        self.assertFalse(toolbox.icon().isNull())
+        self.assertEqual([each.name() for each in toolbox.algorithms()], ["near", "nearest", "reach"])
+        for each in toolbox.algorithms():
+            self.assertTrue(each.shortHelpString())
+            self.assertFalse(each.icon().isNull())
+        self.plugin.unload()
+        self.assertIsNone(registry.providerById("sfstore"))
+        self.plugin = Plugin(Window())
+        self.plugin.initGui()
+
+
+if __name__ == "__main__":
+    unittest.main()

@@ -1,0 +1,99 @@
+"""What a store is asked beside what QGIS shows of it: calls of an `Editor` over a connection of one's own, in any thread."""
+
+from __future__ import annotations
+
+from collections.abc import Iterator, Sequence
+from contextlib import contextmanager
+from decimal import Decimal
+from typing import Any
+
+from qgis.core import QgsGeometry
+
+from sfstore import spelling
+from sfstore.editor import Editor
+from sfstore.exchange.grid import Grid, OffGrid, Outside, Rounding
+from sfstore.geometry import NotTaken, read_wkb, write_wkt
+from sfstore.mapunits import MapUnits
+from sfstore.results import Answer, Refused
+from sfstore.web.client import Client
+
+from .session import Refusal
+from .writing import NotSent
+
+__all__ = ["Asking", "asked", "reach_of", "steps_of"]
+
+# A call of a line names a page. Questions are nobody's edits.
+_PAGE = "qgis questions"
+
+
+class Asking:
+    """A connection to a store's server as the program behind an `Editor` that only asks. One question at a time."""
+
+    has_group = False
+    closed = False
+
+    def __init__(self, path: str, name: str, seconds: float) -> None:
+        """Connects under the name of somebody. `ServerGone` where no server answers; `seconds` is how long one question may take."""
+        self._client = Client(path, name, seconds)
+
+    def check_user(self) -> None:
+        """Whoever has it may use it, in any thread."""
+
+    def exchange(self, lines: Sequence[bytes]) -> list[Answer | Refused]:
+        """The answers of questions. `Refusal` for the first one that is refused."""
+        return [self._answer(line.decode().removesuffix("\n")) for line in lines]
+
+    def close(self) -> None:
+        """Leaves the server."""
+        self._client.close()
+
+    abort = stop = close
+
+    def _answer(self, line: str) -> Answer:
+        told = self._client.call("line", page=_PAGE, line=line)
+        if "refused" in told:
+            raise Refusal(told["refused"])
+        if "rows" not in told:
+            return str(told["answer"])
+        rows: list[str] = told["rows"]
+        if len(rows) < told["count"]:
+            raise NotSent(f"Ask for less: {told['count']:,} features are so, and {len(rows):,} of them can be told at once")
+        return rows
+
+
+@contextmanager
+def asked(path: str, name: str, seconds: float) -> Iterator[Editor]:
+    """A store that can be asked in the body. What it answers, and what it is asked, is in steps of the grid."""
+    asking = Asking(path, name, seconds)
+    try:
+        yield Editor(asking, "")
+    finally:
+        asking.close()
+
+
+def steps_of(geometry: QgsGeometry, grid: Grid, rounding: Rounding) -> str:
+    """The text of a geometry in steps of the grid, without Z and M. `NotSent` where it has none.
+
+    ``rounding`` says whether its coordinates may be moved to the grid, and counts those that are.
+    """
+    flat: Any = geometry.constGet().clone()
+    flat.dropZValue()
+    flat.dropMValue()
+    try:
+        return write_wkt(read_wkb(bytes(flat.asWkb())).mapped(lambda line: grid.steps(line, rounding)))
+    except NotTaken as error:
+        raise NotSent(f"Ask with straight sides: the store takes no other geometry, and this is {error}") from None
+    except OffGrid as error:
+        raise NotSent(f"Move it to the grid first, as sfstore_on_grid does it: {error}") from None
+    except Outside as error:
+        raise NotSent(f"Ask nearer to the map: {error} is further from the origin of the grid than the store reaches") from None
+
+
+def reach_of(distance: float, units: MapUnits) -> Decimal:
+    """A distance in map units, as QGIS has it, in steps of the grid. `NotSent` where no line may have it."""
+    try:
+        reach = units.reach(Decimal(repr(distance)))
+        spelling.distance(reach)
+    except ValueError as error:
+        raise NotSent(f"Take another distance: {error}") from None
+    return reach
