@@ -8,6 +8,7 @@ import signal
 import threading
 import time
 import unittest
+from decimal import Decimal
 from unittest import mock
 
 from qgis.core import (
@@ -20,10 +21,12 @@ from qgis.core import (
     QgsFeature,
     QgsField,
     QgsGeometry,
+    QgsLayoutItemLabel,
     QgsMapRendererParallelJob,
     QgsMapSettings,
     QgsPalLayerSettings,
     QgsPointXY,
+    QgsPrintLayout,
     QgsProcessingAlgRunnerTask,
     QgsProcessingContext,
     QgsProcessingException,
@@ -31,7 +34,9 @@ from qgis.core import (
     QgsProcessingFeedback,
     QgsProject,
     QgsRectangle,
+    QgsRelation,
     QgsVectorLayer,
+    QgsVectorLayerJoinInfo,
     QgsVectorLayerSimpleLabeling,
 )
 from qgis.PyQt.QtCore import NULL, QSize, QVariant
@@ -39,6 +44,7 @@ from qgis_support import CROSSED, SQUARE, Plugin, QgisCase, Window
 
 from support import FOLDER
 
+from sfstore.web.client import ServerGone
 from sfstore_qgis import measures
 from sfstore_qgis.asking import Asking
 from sfstore_qgis.functions import PAGES
@@ -66,10 +72,11 @@ add valves POINT (200 1000)
 TALLER = "POLYGON((500000 5600000, 500030 5600000, 500030 5600050, 500000 5600000))"
 
 
-class Expressions(QgisCase):
-    """What expressions ask."""
+UNKNOWN = "Ask of a layer of a store, or name it, as sfstore_area('parcels', \"_id\") does: of which layer this feature is, is not known here."
 
-    lines = LINES
+
+class Asked(QgisCase):
+    """What an expression gives."""
 
     def asked(self, text, number=None, layer=None):
         """What an expression gives of a feature, or the error in its place."""
@@ -81,6 +88,12 @@ class Expressions(QgisCase):
         expression.prepare(context)
         found = expression.evaluate(context)
         return expression.evalErrorString() or expression.parserErrorString() or found
+
+
+class Expressions(Asked):
+    """What expressions ask."""
+
+    lines = LINES
 
     def test_areas_and_lengths_are_the_stores(self):
         self.assertEqual([self.asked("sfstore_area()", number) for number in (1, 2, 3)], [600.0, 100.0, 0.005])
@@ -126,9 +139,7 @@ class Expressions(QgisCase):
     def test_what_can_not_be_answered_is_an_error_in_words(self):
         other = QgsVectorLayer("Point?field=a:int", "other", "memory")
         QgsProject.instance().addMapLayer(other)
-        self.assertEqual(
-            self.asked("sfstore_area()", layer=other), "Ask of a layer of a store: this one is none, or is not in the project."
-        )
+        self.assertEqual(self.asked("sfstore_area()", layer=other), UNKNOWN)
         self.assertEqual(self.asked("sfstore_area()"), "Ask of a feature: there is none here.")
         for text, said in (
             ("sfstore_area('nix', 1)", "Take another name than 'nix': the project has no layer of a store with this name."),
@@ -304,6 +315,183 @@ class Expressions(QgisCase):
         self.assertEqual(self.asked("sfstore_area()", 1), 600.0)
 
 
+class Elsewhere(Asked):
+    """Expressions about features of other layers than their own, about which QGIS itself tells nobody an error."""
+
+    lines = LINES
+
+    def other(self, geometries, crs="EPSG:25832", fields=()):
+        """A layer of no store."""
+        made = QgsVectorLayer(f"Polygon?crs={crs}", "other", "memory")
+        made.dataProvider().addAttributes(list(fields))
+        made.updateFields()
+        features = []
+        for number, geometry in enumerate(geometries, 1):
+            feature = QgsFeature(made.fields())
+            feature.setGeometry(geometry)
+            feature.setAttributes([number] * len(fields))
+            features.append(feature)
+        made.dataProvider().addFeatures(features)
+        QgsProject.instance().addMapLayer(made)
+        return made
+
+    def asked_of(self, text, layer, feature=None):
+        """What an expression gives of the first feature of any layer, with its error in the place of none."""
+        context = QgsExpressionContext(QgsExpressionContextUtils.globalProjectLayerScopes(layer))
+        context.setFeature(feature or next(layer.getFeatures()))
+        expression = QgsExpression(text)
+        expression.prepare(context)
+        found = expression.evaluate(context)
+        return expression.evalErrorString() or expression.parserErrorString() or found
+
+    def test_a_sum_over_another_layer_is_that_of_its_features(self):
+        other = self.other([QgsGeometry.fromWkt(SQUARE)])
+        for text, found in (
+            ("aggregate('parcels', 'sum', sfstore_area())", 700.005),
+            ("aggregate('parcels', 'max', sfstore_length())", 120.0),
+            ("aggregate('parcels', 'sum', sfstore_area('parcels', \"_id\"))", 700.005),
+            ("aggregate('parcels', 'sum', sfstore_area(), filter:=\"_id\" > 1)", 100.005),
+            ("aggregate('parcels', 'count', \"_id\", filter:=sfstore_area() > 50)", 2),
+            ("aggregate('parcels', 'sum', sfstore_distance('wells', 1, $geometry), filter:=\"_id\" = 1)", 10.0),
+        ):
+            for layer in (self.layer("wells"), other):
+                self.assertEqual(self.asked_of(text, layer), found, text)
+        self.assertEqual(self.asked("sum(sfstore_area())", 1), 700.005)
+        self.assertEqual(self.said(), [])
+
+    def test_a_sum_by_a_relation(self):
+        owners = self.other([QgsGeometry.fromWkt(SQUARE)], fields=[QgsField("number", QVariant.Int)])
+        owners.dataProvider().changeAttributeValues({1: {0: 7}})
+        relation = QgsRelation()
+        relation.setId("owned")
+        relation.setReferencingLayer(self.layer().id())
+        relation.setReferencedLayer(owners.id())
+        relation.addFieldPair("number", "number")
+        QgsProject.instance().relationManager().addRelation(relation)
+        self.assertEqual(self.asked_of("relation_aggregate('owned', 'sum', sfstore_area())", owners), 600.0)
+        self.assertEqual(self.asked_of("relation_aggregate('owned', 'max', sfstore_length())", owners), 120.0)
+
+    def test_a_sum_of_which_a_part_is_not_known_is_none(self):
+        parcels, wells = self.layer(), self.layer("wells")
+        parcels.startEditing()
+        parcels.changeGeometry(self.fid(1), QgsGeometry.fromWkt(TALLER))
+        said = "Save your edits first: parcels has other geometries here than in the store."
+        for each in ("sfstore_area()", "sfstore_area('parcels', \"_id\")", "sfstore_distance('parcels', \"_id\", $geometry)"):
+            for what in ("sum", "max"):
+                self.assertIn(said, self.asked_of(f"aggregate('parcels', '{what}', {each})", wells))
+        self.assertEqual(self.said(), [])
+        # What is named by an expression is known with each feature: the sum is none, and it is told why.
+        self.assertIn(self.asked_of("aggregate('parcels', 'sum', sfstore_area(lower('PARCELS'), \"_id\"))", wells), (None, NULL))
+        self.turn()
+        told = "Mend this, and compute it anew: in an aggregate or a filter QGIS leaves out what has an error. Save your edits first: parcels 1 has"
+        self.assertIn(told, " ".join(self.said()))
+        parcels.rollBack()
+        self.assertEqual(self.asked_of("aggregate('parcels', 'sum', sfstore_area(lower('PARCELS'), \"_id\"))", wells), 700.005)
+        with mock.patch.object(measures.Measures, "of", side_effect=[Decimal(1), Decimal(1), ServerGone("Wait a moment"), Decimal(1)]):
+            self.assertIn(self.asked_of("aggregate('parcels', 'sum', sfstore_area())", wells), (None, NULL))
+        with mock.patch.object(type(self.session), "is_connected", False):
+            self.assertIn("Wait a moment: ", self.asked_of("aggregate('parcels', 'max', sfstore_area())", wells))
+
+    def test_of_an_overlay_no_feature_is_taken_for_another_one(self):
+        self.ben().call("batch", page="ben", lines=["delete parcels 1"], seen=[self.session.version])
+        self.settle()
+        parcels, wells = self.layer(), self.layer("wells")
+        other = self.other([QgsGeometry.fromWkt(SQUARE)])
+        for layer, feature, overlay in (
+            (wells, self.feature(2, wells), "overlay_intersects"),
+            (parcels, self.feature(2), "overlay_nearest"),
+            (other, None, "overlay_disjoint"),
+        ):
+            found = [{2: 100.0, 3: 0.005}[number] for number in self.asked_of(f"{overlay}('parcels', \"_id\")", layer, feature)]
+            self.assertTrue(found)
+            for text in ("sfstore_area('parcels', \"_id\")", "sfstore_area('parcels', \"_id\"), filter:=sfstore_area() > 0.001"):
+                self.assertEqual(self.asked_of(f"{overlay}('parcels', {text})", layer, feature), found, text)
+            self.turn()
+            self.assertEqual(self.said(), [])
+            # QGIS may make a copy of the layer, which brings nothing along.
+            self.assertIn(self.asked_of(f"{overlay}('parcels', sfstore_area())", layer, feature), (found, [None], [NULL]))
+        self.assertIn(self.asked_of("overlay_nearest('other', sfstore_area())", parcels, self.feature(2)), ([None], [NULL]))
+
+    def test_a_copy_is_not_taken_for_its_original(self):
+        parcels = self.layer()
+        mark = parcels.fields()[0].comment()
+        fields = [QgsField("_id", QVariant.LongLong, "int8", 0, 0, mark)]
+        shapes = [feature.geometry() for feature in parcels.getFeatures()]
+        same = self.other(shapes, fields=fields)
+        same.setName("same")
+        changed = self.other([QgsGeometry.fromWkt(TALLER), *shapes[1:]], fields=fields)
+        self.assertEqual([layer.fields()[0].comment() for layer in (same, changed)], [mark, mark])
+        wells = self.layer("wells")
+        self.assertEqual(self.asked_of("aggregate('same', 'sum', sfstore_area())", wells), 700.005)
+        self.assertIn(self.asked_of("aggregate('other', 'sum', sfstore_area())", wells), (None, NULL))
+        self.assertEqual(self.asked_of("sfstore_area()", changed), UNKNOWN)
+        self.assertEqual(self.asked_of("sfstore_area()", same), 600.0)
+        # Numbers of QGIS that are others'.
+        same.dataProvider().changeAttributeValues({1: {0: 2}})
+        self.assertEqual(self.asked_of("sfstore_area()", same), UNKNOWN)
+
+    def test_a_layer_with_the_parcels_joined_to_it_has_none_of_their_areas(self):
+        other = self.other([QgsGeometry.fromWkt(SQUARE)], fields=[QgsField("key", QVariant.Int)])
+        join = QgsVectorLayerJoinInfo()
+        join.setJoinLayer(self.layer())
+        join.setJoinFieldName("_id")
+        join.setTargetFieldName("key")
+        join.setPrefix("")
+        self.assertTrue(other.addJoin(join))
+        # QGIS joins no field by which it joins, so that the number stands there by another field.
+        self.layer().addExpressionField("sfstore_area()", QgsField("exact", QVariant.Double))
+        other.updateFields()
+        feature = next(other.getFeatures())
+        self.assertEqual(feature["exact"], 600.0)
+        self.assertEqual(self.asked_of("sfstore_area()", other), UNKNOWN)
+        self.assertEqual(self.asked_of("sfstore_area('parcels', \"key\")", other), 600.0)
+        self.assertEqual(self.asked_of("aggregate('parcels', 'sum', \"exact\")", other), 700.005)
+
+    def test_a_print_layout_has_the_feature_of_its_atlas(self):
+        layout = QgsPrintLayout(QgsProject.instance())
+        layout.initializeDefaults()
+        atlas = layout.atlas()
+        atlas.setEnabled(True)
+        atlas.setCoverageLayer(self.layer())
+        label = QgsLayoutItemLabel(layout)
+        layout.addLayoutItem(label)
+        label.setText("[% sfstore_area() %]/[% aggregate('parcels', 'sum', sfstore_area()) %]")
+        atlas.beginRender()
+        self.assertTrue(atlas.first())
+        self.assertEqual(label.currentText(), "600/700.005")
+        self.assertTrue(atlas.next())
+        self.assertEqual(label.currentText(), "100/700.005")
+        atlas.endRender()
+
+    def test_a_geometry_of_another_reference_system_is_refused(self):
+        """Two stores on one grid of numbers, whose zones are others."""
+        there = self.folder / "east.sfs"
+        self.make(b"layer add trees point\nadd trees POINT (300 500)\n", there)
+        self.place(there, crs="25833")
+        self.plugin.open(str(there))
+        trees = self.layer("trees")
+        how = "transform($geometry, 'EPSG:25833', 'EPSG:25832')"
+        said = f"Ask in the reference system of wells, as sfstore_on_grid('wells', {how}) has it: this geometry is in EPSG:25833."
+        for text in (
+            "sfstore_distance('wells', 1, $geometry)",
+            "sfstore_near('wells', 2, buffer($geometry, 0))",
+            "sfstore_nearest('wells', 1, $geometry)",
+            "sfstore_on_grid('wells', $geometry)",
+        ):
+            self.assertEqual(self.asked(text, 1, trees), said, text)
+        # It lies some 420 km to the east.
+        far = self.asked(f"sfstore_distance('wells', 1, sfstore_on_grid('wells', {how}))", 1, trees)
+        self.assertTrue(400_000 < far < 450_000, far)
+        self.assertEqual(self.asked("sfstore_distance('wells', 1, make_point(500030, 5600050))", 1, trees), 0.0)
+        self.assertEqual(self.asked("sfstore_distance('trees', 1, $geometry)", 1, trees), 0.0)
+        # Of a layer of no store.
+        other = self.other([QgsGeometry.fromWkt("POLYGON((1 1, 2 2, 2 1, 1 1))")], "EPSG:4326")
+        self.assertIn("this geometry is in EPSG:4326.", self.asked_of("sfstore_distance('wells', 1, $geometry)", other))
+        self.assertEqual(self.asked_of("aggregate('trees', 'array_agg', to_string(sfstore_distance('wells', 1, $geometry)))", other), ["nan"])
+        self.turn()
+        self.assertIn("this geometry is in EPSG:25833.", " ".join(self.said()))
+
+
 class Examples(QgisCase):
     """What the page and the help of the functions say, in the town."""
 
@@ -436,7 +624,7 @@ class Algorithms(QgisCase):
         for said, name, asked in (
             ("Choose a layer of a store: no other one can be asked.", "near", {**near, "LAYER": other.id()}),
             ("Choose a layer, or a point on the map.", "near", near),
-            ("Move or remove a corner: the border meets itself at (500523.33 5600053.33). (13 RingNotSimple)", "near", {**near, "FROM": other.id()}),
+            ("Move or remove a corner: the border meets itself at (500523.33 5600053.33). (other 1, 13 RingNotSimple)", "near", {**near, "FROM": other.id()}),
             ("Ask nearer to the map: x 1000000000.0 of point 0 is further from the origin of the grid than the store reaches.", "near", {**near, "POINT": "1000000000,0"}),
             (
                 "Take another distance: the distance 0.00001 is no whole number of thousandths of a grid step; 0 and 0.0001 are.",

@@ -168,7 +168,7 @@ class Opening(QgisCase):
         self.assertTrue(QgsProject.instance().read(file))
         self.assertEqual(self.layer().crs().authid(), "EPSG:2056")
         self.assertEqual(self.layer().geometryOptions().geometryPrecision(), 1)
-        self.assertIn("parcels is shown in the store's reference system, EPSG:2056: the project had EPSG:25832.", self.said())
+        self.assertIn("parcels is shown in the store's reference system, EPSG:2056, and not in EPSG:25832.", self.said())
         self.session = Session.of(str(self.path))
         self.assert_alike()
 
@@ -2423,7 +2423,7 @@ class Lost(QgisCase):
         self.wait_for(lambda: self.session.is_connected)
         said = " ".join(self.said())
         self.assertIn("given up: the store has another grid or reference system than before.", said)
-        self.assertIn("parcels is shown in the store's reference system, EPSG:2056: the project had EPSG:25832.", said)
+        self.assertIn("parcels is shown in the store's reference system, EPSG:2056, and not in EPSG:25832.", said)
         self.assertFalse(parcels.isModified())
         self.turn(0.3)
         for layer in self.plugin.editings.values():

@@ -20,10 +20,14 @@ from sfstore.web.client import Client
 from .session import Refusal
 from .writing import NotSent
 
-__all__ = ["Asking", "asked", "reach_of", "steps_of"]
+__all__ = ["Asking", "OutOfReach", "asked", "reach_of", "steps_of"]
 
 # A call of a line names a page. Questions are nobody's edits.
 _PAGE = "qgis questions"
+
+
+class OutOfReach(NotSent):
+    """A geometry lies where no store has anything: off its grid on all sides, or nowhere."""
 
 
 class Asking:
@@ -32,8 +36,13 @@ class Asking:
     has_group = False
     closed = False
 
-    def __init__(self, path: str, name: str, seconds: float) -> None:
-        """Connects under the name of somebody. `ServerGone` where no server answers; `seconds` is how long one question may take."""
+    def __init__(self, path: str, name: str, seconds: float, grid: str) -> None:
+        """Connects under the name of somebody. `ServerGone` where no server answers; `seconds` is how long one question may take.
+
+        ``grid`` is the mark of the grid by which it is asked. Over another one the server answers nothing: a distance or a
+        coordinate would be another one.
+        """
+        self.grid = grid
         self._client = Client(path, name, seconds)
 
     def check_user(self) -> None:
@@ -50,7 +59,7 @@ class Asking:
     abort = stop = close
 
     def _answer(self, line: str) -> Answer:
-        told = self._client.call("line", page=_PAGE, line=line)
+        told = self._client.call("line", page=_PAGE, line=line, grid=self.grid)
         if "refused" in told:
             raise Refusal(told["refused"])
         if "rows" not in told:
@@ -62,9 +71,9 @@ class Asking:
 
 
 @contextmanager
-def asked(path: str, name: str, seconds: float) -> Iterator[Editor]:
-    """A store that can be asked in the body. What it answers, and what it is asked, is in steps of the grid."""
-    asking = Asking(path, name, seconds)
+def asked(path: str, name: str, seconds: float, grid: str) -> Iterator[Editor]:
+    """A store that can be asked in the body. What it answers, and what it is asked, is in steps of the grid that has the mark."""
+    asking = Asking(path, name, seconds, grid)
     try:
         yield Editor(asking, "")
     finally:
@@ -84,9 +93,11 @@ def steps_of(geometry: QgsGeometry, grid: Grid, rounding: Rounding) -> str:
     except NotTaken as error:
         raise NotSent(f"Ask with straight sides: the store takes no other geometry, and this is {error}") from None
     except OffGrid as error:
+        if rounding.is_asked:
+            raise OutOfReach(f"Ask of a geometry with coordinates that are numbers: this one has {error}") from None
         raise NotSent(f"Move it to the grid first, as sfstore_on_grid does it: {error}") from None
     except Outside as error:
-        raise NotSent(f"Ask nearer to the map: {error} is further from the origin of the grid than the store reaches") from None
+        raise OutOfReach(f"Ask nearer to the map: {error} is further from the origin of the grid than the store reaches") from None
 
 
 def reach_of(distance: float, units: MapUnits) -> Decimal:

@@ -55,6 +55,8 @@ class Editing:
         self.key: str = layer.id()
         self.name: str = layer.name()
         """The name of the layer in the project, for threads too which may not ask the layer."""
+        self.crs = layer.crs()
+        """Its reference system: the store's, or where that has none the one that its user has given it."""
         self.provider: Provider = layer.dataProvider()
         self.rounding = Rounding()
         self.is_in_doubt = False
@@ -110,6 +112,9 @@ class Editing:
 
     def take_name(self) -> None:
         self.name = self.layer.name()
+
+    def take_crs(self) -> None:
+        self.crs = self.layer.crs()
 
     def reshape(self, fid: int, *_: object) -> None:
         """Notes that a feature was drawn, reshaped or deleted."""

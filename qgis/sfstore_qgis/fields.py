@@ -16,7 +16,7 @@ from sfstore.results import Column, ColumnType
 
 from .values import Choice, column_type_of, dressed, field_of, shown, spelling_of
 
-__all__ = ["IDENTIFIER", "Fields", "FieldsDiffer", "Places", "as_columns", "check_layer", "columns_of", "names_of"]
+__all__ = ["IDENTIFIER", "Fields", "FieldsDiffer", "Places", "as_columns", "check_layer", "columns_of", "mark_of", "names_of"]
 
 IDENTIFIER = "_id"
 """The field of a feature's identifier. No column has this name: those of a store begin with a letter."""
@@ -67,10 +67,11 @@ class Fields:
     shown: QgsFields
     """The fields as a provider gives them: a memory layer's own remember the places that they had before one went."""
 
-    def __init__(self, memory: Any, columns: Sequence[Column], choices: Mapping[str, Choice]) -> None:
+    def __init__(self, memory: Any, columns: Sequence[Column], choices: Mapping[str, Choice], mark: str) -> None:
         """Gives a memory layer, which has no fields yet, those of some columns. `FieldsDiffer` where it takes them not.
 
-        ``choices`` are what rules say of values, by the names of columns.
+        ``choices`` are what rules say of values, by the names of columns, and ``mark`` what the field of the identifier says
+        of where its features are from.
         """
         self._memory = memory
         self._choices = choices
@@ -78,7 +79,7 @@ class Fields:
         # The memory layer's own, as they were when they were looked at last.
         self._agreed = QgsFields()
         self.columns = list(columns)
-        memory.addAttributes([QgsField(IDENTIFIER, QVariant.LongLong, "int"), *map(field_of, columns)])
+        memory.addAttributes([QgsField(IDENTIFIER, QVariant.LongLong, "int", 0, 0, mark), *map(field_of, columns)])
         self._show()
 
     def add(self, columns: Sequence[Column], asked: Iterable[QgsField] = ()) -> None:
@@ -141,6 +142,12 @@ class Fields:
         """Where values stand. `FieldsDiffer` where the memory layer has other fields."""
         self.check()
         return self._places
+
+
+def mark_of(fields: QgsFields) -> str:
+    """What fields of a feature say of where it is from: empty where it is from no store. A copy may say the same."""
+    at = fields.indexOf(IDENTIFIER)
+    return str(fields.at(at).comment()) if at >= 0 and fields.fieldOrigin(at) == QgsFields.OriginProvider else ""
 
 
 def names_of(fields: QgsFields) -> list[str | None]:

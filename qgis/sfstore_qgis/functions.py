@@ -2,28 +2,45 @@
 
 Labels, symbols and algorithms ask them in threads of their own, so nothing here asks a layer of QGIS: all is known by
 the plugin's editings, the mirrors and the store.
+
+QGIS says of which layer an expression is, and in an aggregate or an overlay that is not the one of the feature. So a
+feature is taken for one of the store by what it brings along itself, and where that may be a copy's, by its geometry.
+There QGIS leaves out what has an error, too. So an aggregate that can't be answered is ended before it begins where
+that is known, and else it has no number; and the person is told.
 """
 
 from __future__ import annotations
 
+import math
+import time
 from collections.abc import Callable, Mapping, Sequence
 from functools import partial
 from typing import Any, NamedTuple
 
-from qgis.core import QgsExpression, QgsExpressionFunction, QgsGeometry, QgsMapLayer
+from qgis.core import (
+    QgsCoordinateReferenceSystem,
+    QgsExpression,
+    QgsExpressionFunction,
+    QgsExpressionNodeLiteral,
+    QgsFeature,
+    QgsGeometry,
+    QgsMapLayer,
+)
+from qgis.PyQt.QtCore import QObject, pyqtSignal
 
-from sfstore.exchange.grid import Rounding
+from sfstore.exchange.grid import Grid, Rounding
 from sfstore.language import IDENTIFIER_MAX, IDENTIFIERS_MAX
 from sfstore.web.client import CallFailed, ServerGone
 
 from .asking import reach_of, steps_of
 from .editing import Editing
+from .fields import IDENTIFIER, mark_of
 from .measures import Measure, Measures
 from .mirror import Mirror
 from .reading import geometry_of
 from .session import LayerRefused, Refusal, Session
 from .words import words_of
-from .writing import NotSent
+from .writing import NotSent, is_none
 
 __all__ = ["PAGES", "Functions"]
 
@@ -49,6 +66,10 @@ _LAYER = "the name of a layer of a store in the project, or its id"
 _GEOMETRY = "a geometry in the reference system of the store, on its grid; Z and M play no part"
 _OWN = {"layer, id": f"{_LAYER}, and the number of a feature, as <code>_id</code> has it; without them it is the current feature"}
 _UNSENT = "A feature whose geometry was changed here and not saved gives an error: the store does not have it yet."
+# The variable that QGIS sets where an expression is evaluated for features of another layer than its own.
+_WITHIN = "parent"
+# So long nothing more is told of what QGIS leaves out: each of many features may have an error.
+_TOLD_SECONDS = 10.0
 
 PAGES = {
     "sfstore_area": _Page(f"The area of a feature in squared map units, exact, as the store answers it. {_UNSENT}", _OWN, "sfstore_area() > 500"),
@@ -96,43 +117,94 @@ class _Of(NamedTuple):
         return found
 
 
+class _Asked(NamedTuple):
+    """Where a function stands."""
+
+    context: Any
+    """What QGIS evaluates its expression for."""
+    node: Any
+    """Its place in the expression."""
+
+    @property
+    def is_within(self) -> bool:
+        """Whether the feature may be of another layer than the expression."""
+        return self.context is not None and bool(self.context.hasVariable(_WITHIN))
+
+    @property
+    def layer(self) -> str:
+        """The key of the layer whose expression it is; empty where it is of none."""
+        return str(self.context.variable("layer_id") or "") if self.context is not None else ""
+
+    @property
+    def mark(self) -> str:
+        """What the current feature says of where it is from."""
+        return mark_of(self.context.feature().fields()) if self.context is not None else ""
+
+
 class _Function(QgsExpressionFunction):
     """A function of expressions. What can't be answered is an evaluation error in words, and never another answer."""
 
-    def __init__(self, name: str, parameters: Sequence[Any], answer: Callable[[_Values, Any], Any]) -> None:
+    def __init__(self, name: str, parameters: Sequence[Any], answer: Callable[[_Values, _Asked], Any], functions: Functions) -> None:
         super().__init__(name, list(parameters), _GROUP, PAGES[name].html(name), isContextual=True)
-        self._answer = answer
+        self._answer, self._functions = answer, functions
+        # Without a geometry among its arguments it is about the current feature, where none is named.
+        self._is_own = all(each.name() != "geometry" for each in parameters)
+
+    def prepare(self, node: Any, parent: Any, context: Any) -> bool:
+        asked = _Asked(context, node)
+        try:
+            if asked.is_within:
+                self._functions.check(asked, self._is_own)
+        except _FAULTS as error:
+            parent.setEvalErrorString(words_of(error))
+            return False
+        return True
 
     def func(self, values: _Values, context: Any, parent: Any, node: Any) -> Any:
+        asked = _Asked(context, node)
         try:
-            return self._answer(values, context)
-        except (CallFailed, LayerRefused, NotSent, Refusal, ServerGone) as error:
-            parent.setEvalErrorString(words_of(error))
+            return self._answer(values, asked)
+        except _FAULTS as error:
+            words = words_of(error)
+            self._functions.tell(asked, words)
+            if asked.is_within:
+                # Behind an error QGIS would go on with the others: a sum with this is no number.
+                return math.nan
+            parent.setEvalErrorString(words)
             return None
 
     def usesGeometry(self, node: Any) -> bool:
-        return False
+        # Whether the current feature is the store's can be seen by that.
+        return self._is_own
 
     def referencedColumns(self, node: Any) -> set[str]:
-        return set()
+        return {IDENTIFIER} if self._is_own else set()
 
 
-class Functions:
+_FAULTS = (CallFailed, LayerRefused, NotSent, Refusal, ServerGone)
+
+
+class Functions(QObject):
     """The functions over the layers that the plugin follows."""
 
+    unheard = pyqtSignal(str)
+    """An error that QGIS tells nobody, in words: in an aggregate or a filter it leaves the feature out, and gives a number nevertheless."""
+
     def __init__(self, editings: Mapping[str, Editing]) -> None:
+        super().__init__()
         self._editings = editings
         self._measures: dict[str, Measures] = {}
+        self._told_until = 0.0
         layer, number, geometry = _Parameter("layer"), _Parameter("id"), _Parameter("geometry")
         # Where they are left out: no layer has an empty name, and no feature a number below 0.
         own = [_Parameter("layer", True, ""), _Parameter("id", True, -1)]
         self._functions = [
-            _Function("sfstore_area", own, partial(self._measure, "area")),
-            _Function("sfstore_length", own, partial(self._measure, "length")),
-            _Function("sfstore_distance", [layer, number, geometry], self._distance),
-            _Function("sfstore_near", [layer, _Parameter("distance"), geometry], self._near),
-            _Function("sfstore_nearest", [layer, _Parameter("count"), geometry], self._nearest),
-            _Function("sfstore_on_grid", [layer, geometry], self._on_grid),
+            _Function("sfstore_area", own, partial(self._measure, "area"), self),
+            _Function("sfstore_length", own, partial(self._measure, "length"), self),
+            _Function("sfstore_distance", [layer, number, geometry], self._distance, self),
+            _Function("sfstore_near", [layer, _Parameter("distance"), geometry], self._near, self),
+            _Function("sfstore_nearest", [layer, _Parameter("count"), geometry], self._nearest, self),
+            _Function("sfstore_on_grid", [layer, geometry], self._on_grid, self),
         ]
 
     def register(self) -> None:
@@ -153,57 +225,126 @@ class Functions:
         if measures is not None:
             measures.close()
 
+    def check(self, asked: _Asked, is_own: bool) -> None:
+        """Says of an aggregate, before it begins, what is known not to be answered for some feature of it."""
+        first = next(iter(asked.node.args().list()), None)
+        name = first.value() if isinstance(first, QgsExpressionNodeLiteral) else None
+        if is_own and name == "":
+            those = self._over(mark_of(asked.context.fields()))
+            if not those:
+                raise _unknown()
+        else:
+            # What another expression names is known with the feature.
+            those = [] if is_none(name) else [self._layer(name)]
+        for each in those:
+            _all_sent(each)
+            if not each.session.is_connected:
+                raise ServerGone(f"Wait a moment: the server of {each.name} does not answer")
+
+    def tell(self, asked: _Asked, words: str) -> None:
+        """Tells of an error where QGIS itself tells nobody: it does where an expression of a layer is about a feature of it."""
+        shown, mark = self._editings.get(asked.layer), asked.mark
+        is_of_layer = asked.layer and mark == (shown.provider.mirror.mark if shown is not None else "")
+        now = time.monotonic()
+        if now > self._told_until and (asked.is_within or not is_of_layer):
+            self._told_until = now + _TOLD_SECONDS
+            self.unheard.emit(words)
+
     # What the functions answer.
 
-    def _measure(self, measure: Measure, values: _Values, context: Any) -> float:
+    def _measure(self, measure: Measure, values: _Values, asked: _Asked) -> float:
         name, number = values
-        of = self._current(context) if name == "" and number == -1 else self._named(name, number)
+        of = self._current(asked) if name == "" and number == -1 else self._named(name, number)
         return float(self._of(of.editing.session).of(measure, of.mirror, of.number))
 
-    def _distance(self, values: _Values, context: Any) -> float:
+    def _distance(self, values: _Values, asked: _Asked) -> float:
         name, number, geometry = values
         of = self._named(name, number)
-        measures, wkt = self._of(of.editing.session), _steps(geometry, of.editing.session)
-        found = measures.ask(lambda store: store.distance(of.mirror.name, of.number, wkt))
-        return float(measures.units.length(found.steps))
+        placing, measures = of.editing.session.placing, self._of(of.editing.session)
+        wkt = self._steps(geometry, of.editing, placing.grid, asked)
+        found = measures.ask(lambda store: store.distance(of.mirror.name, of.number, wkt), placing)
+        return float(placing.units.length(found.steps))
 
-    def _near(self, values: _Values, context: Any) -> list[int]:
+    def _near(self, values: _Values, asked: _Asked) -> list[int]:
         name, distance, geometry = values
         editing = _all_sent(self._layer(name))
-        measures, wkt = self._of(editing.session), _steps(geometry, editing.session)
-        reach = reach_of(_number(distance, "distance"), measures.units)
-        return measures.ask(lambda store: store.near(editing.provider.source.layer, reach, wkt))
+        placing, measures = editing.session.placing, self._of(editing.session)
+        wkt = self._steps(geometry, editing, placing.grid, asked)
+        reach = reach_of(_number(distance, "distance"), placing.units)
+        return measures.ask(lambda store: store.near(editing.provider.source.layer, reach, wkt), placing)
 
-    def _nearest(self, values: _Values, context: Any) -> list[int]:
+    def _nearest(self, values: _Values, asked: _Asked) -> list[int]:
         name, count, geometry = values
         editing = _all_sent(self._layer(name))
-        measures, wkt = self._of(editing.session), _steps(geometry, editing.session)
+        placing, measures = editing.session.placing, self._of(editing.session)
+        wkt = self._steps(geometry, editing, placing.grid, asked)
         wanted = _whole(count, "count", 1, IDENTIFIERS_MAX)
-        found = measures.ask(lambda store: store.nearest(editing.provider.source.layer, wanted, wkt))
+        found = measures.ask(lambda store: store.nearest(editing.provider.source.layer, wanted, wkt), placing)
         return [each.feature_id for each in found]
 
-    def _on_grid(self, values: _Values, context: Any) -> QgsGeometry:
+    def _on_grid(self, values: _Values, asked: _Asked) -> QgsGeometry:
         name, geometry = values
-        grid = self._layer(name).session.grid
-        return geometry_of(steps_of(_geometry(geometry), grid, Rounding()), grid)
+        editing = self._layer(name)
+        grid = editing.session.grid
+        return geometry_of(self._steps(geometry, editing, grid, asked, Rounding()), grid)
+
+    def _steps(self, found: Any, editing: Editing, grid: Grid, asked: _Asked, rounding: Rounding | None = None) -> str:
+        """A geometry as the store is asked about it. `NotSent` where it is none, or lies off the grid, unless it is moved there."""
+        geometry = _geometry(found)
+        self._check_system(editing, asked)
+        return steps_of(geometry, grid, rounding or Rounding(is_asked=False))
 
     # What they are asked about.
 
     def _of(self, session: Session) -> Measures:
         return self._measures.get(session.path) or self._measures.setdefault(session.path, Measures(session))
 
-    def _current(self, context: Any) -> _Of:
-        """The feature that QGIS asks about."""
-        editing = self._editings.get(str(context.variable("layer_id"))) if context is not None else None
-        if editing is None:
-            raise LayerRefused("Ask of a layer of a store: this one is none, or is not in the project.")
-        feature = context.feature()
-        if not feature.isValid():
+    def _over(self, mark: str) -> list[Editing]:
+        """The layers whose features say that of where they are from."""
+        return [each for each in list(self._editings.values()) if each.provider.mirror.mark == mark] if mark else []
+
+    def _current(self, asked: _Asked) -> _Of:
+        """The feature that QGIS asks about, of whichever layer. `LayerRefused` where it is not known to be of a store's."""
+        feature = asked.context.feature() if asked.context is not None else QgsFeature()
+        shown = self._editings.get(asked.layer)
+        if shown is not None and not feature.isValid():
             raise LayerRefused("Ask of a feature: there is none here.")
-        number = editing.provider.mirror.numbers.get(feature.id())
-        if number is None:
-            raise NotSent(f"Save it first: the store of {editing.name} does not have this feature yet")
-        return _sent(_Of(editing, number))
+        those = self._over(asked.mark)
+        if not those:
+            raise _unknown()
+        of = _Of(those[0], _number_of(feature, those[0]))
+        if shown in those and not asked.is_within:
+            return _sent(of._replace(editing=shown))
+        for each in those:
+            _sent(of._replace(editing=each))
+        # It may be of a copy, which says of itself what its original does.
+        if not self._of(of.editing.session).has_shape(of.mirror, of.number, feature.geometry()):
+            raise _unknown()
+        return of
+
+    def _check_system(self, editing: Editing, asked: _Asked) -> None:
+        """`NotSent` where the geometry of the current feature is asked about in another reference system than that of the layer."""
+        if asked.node is None:
+            # A question of SQL has no current feature.
+            return
+        argument = asked.node.args().list()[-1]
+        functions = argument.referencedFunctions()
+        if "transform" in functions or not ("$geometry" in functions or "geometry" in argument.referencedVariables()):
+            return
+        theirs, ours = self._system_of(asked), editing.crs
+        if theirs.isValid() and ours.isValid() and theirs != ours:
+            names = theirs.authid() or theirs.description(), ours.authid() or ours.description()
+            how = "transform($geometry, '{}', '{}')".format(*names)
+            raise NotSent(f"Ask in the reference system of {editing.name}, as sfstore_on_grid('{editing.name}', {how}) has it: this geometry is in {names[0]}")
+        if theirs.isValid() and not ours.isValid() and theirs.isGeographic():
+            raise NotSent(f"Give {editing.name} its reference system first: it has none, and this geometry is in degrees, of {theirs.authid()}")
+
+    def _system_of(self, asked: _Asked) -> Any:
+        """The reference system of the current feature; an invalid one where that is not known."""
+        those = self._over(asked.mark)
+        if those:
+            return those[0].crs
+        return QgsCoordinateReferenceSystem("" if asked.is_within else str(asked.context.variable("layer_crs") or ""))
 
     def _named(self, name: Any, number: Any) -> _Of:
         """A feature that is named by its layer and its identifier."""
@@ -221,6 +362,22 @@ class Functions:
         return found[0]
 
 
+def _unknown() -> LayerRefused:
+    return LayerRefused("Ask of a layer of a store, or name it, as sfstore_area('parcels', \"_id\") does: of which layer this feature is, is not known here.")
+
+
+def _number_of(feature: QgsFeature, editing: Editing) -> int:
+    """The store's number of a feature that QGIS has of a layer. `NotSent` where it has none yet."""
+    number: int | None = editing.provider.mirror.numbers.get(feature.id())
+    if number is None:
+        raise NotSent(f"Save it first: the store of {editing.name} does not have this feature yet")
+    told = feature.attribute(IDENTIFIER)
+    if not is_none(told) and told != number:
+        # QGIS numbers the features of a copy anew.
+        raise _unknown()
+    return number
+
+
 def _sent(of: _Of) -> _Of:
     """A feature that is as the store has it. `NotSent` for one that was changed here since."""
     if of.mirror.fids.get(of.number) in of.editing.reshaped:
@@ -233,11 +390,6 @@ def _all_sent(editing: Editing) -> Editing:
     if editing.reshaped:
         raise NotSent(f"Save your edits first: {editing.name} has other geometries here than in the store")
     return editing
-
-
-def _steps(geometry: Any, session: Session) -> str:
-    """A geometry as the store is asked about it. `NotSent` where it is none, or lies off the grid."""
-    return steps_of(_geometry(geometry), session.grid, Rounding(is_asked=False))
 
 
 def _geometry(found: Any) -> QgsGeometry:

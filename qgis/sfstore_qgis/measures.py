@@ -1,4 +1,7 @@
-"""Areas and lengths of a store's features, which QGIS' expressions ask one by one: the store is asked for many at a time."""
+"""Areas and lengths of a store's features, which QGIS' expressions ask one by one: the store is asked for many at a time.
+
+Whoever asks may have a feature of which QGIS does not say for certain where it is from. So a store is asked for geometries too.
+"""
 
 from __future__ import annotations
 
@@ -8,22 +11,28 @@ import threading
 import time
 from collections.abc import Callable
 from decimal import Decimal
-from typing import Literal, NamedTuple, TypeVar
+from typing import Any, Literal, NamedTuple, TypeVar
 
+from qgis.core import QgsGeometry
+
+from sfstore import spelling
 from sfstore.editor import Editor
 from sfstore.language import IDENTIFIERS_MAX
-from sfstore.mapunits import MapUnits
 from sfstore.web.client import ServerGone
 
 from .asking import Asking
 from .mirror import Mirror
-from .session import Refusal, Session
+from .reading import geometry_of_row
+from .session import Placing, Refusal, Session
+from .writing import NotSent
 
 __all__ = ["Measure", "Measures"]
 
 Measure = Literal["area", "length"]
 """What is measured of a feature."""
 
+# What is known of a feature: a measure, or a sum of its geometry that no other geometry has.
+_Asked = Literal["area", "length", "shape"]
 _T = TypeVar("_T")
 
 # How long a question may take: a bit longer than the server takes before it gives one up. Of one that has not answered
@@ -38,8 +47,8 @@ class _Known(NamedTuple):
 
     change: int
     """How much of what is changed had been seen: behind a further change nothing of it counts any more."""
-    found: dict[int, Decimal]
-    """By the identifiers of features, in map units."""
+    found: dict[int, Any]
+    """By the identifiers of features; measures in map units."""
 
 
 class Measures:
@@ -50,69 +59,76 @@ class Measures:
         self._name = Session.user()
         self._asking: Asking | None = None
         self._one_at_a_time = threading.Lock()
-        self._known: dict[tuple[str, Measure], _Known] = {}
+        self._known: dict[tuple[str, _Asked], _Known] = {}
         self._silent_until = 0.0
-
-    @property
-    def units(self) -> MapUnits:
-        """The coordinates of the map."""
-        return MapUnits(*self._session.grid.words)
 
     def of(self, measure: Measure, mirror: Mirror, number: int) -> Decimal:
         """The area or the length of a feature, as it is in the store now. `Refusal` where it is not there."""
+        found: Decimal = self._of(measure, mirror, number)
+        return found
+
+    def has_shape(self, mirror: Mirror, number: int, geometry: QgsGeometry) -> bool:
+        """Whether a feature has this very geometry in the store now, as QGIS shows it. `Refusal` where it is not there."""
+        return bool(self._of("shape", mirror, number) == _sum_of(geometry))
+
+    def ask(self, question: Callable[[Editor], _T], placing: Placing) -> _T:
+        """The answer of another question, in steps of a grid. `CallFailed` where the store has another one by now."""
         with self._one_at_a_time:
-            change, key = self._session.changes, (mirror.name, measure)
+            return self._asked(question, placing)
+
+    def _of(self, asked: _Asked, mirror: Mirror, number: int) -> Any:
+        with self._one_at_a_time:
+            change, key = self._session.changes, (mirror.name, asked)
             known = self._known.get(key)
             if known is None or known.change != change:
                 known = self._known[key] = _Known(change, {})
             if number not in known.found:
-                known.found.update(self._measured(measure, mirror, number))
+                known.found.update(self._measured(asked, mirror, number))
             return known.found[number]
-
-    def ask(self, question: Callable[[Editor], _T]) -> _T:
-        """The answer of another question, in steps of the grid."""
-        with self._one_at_a_time:
-            return self._asked(question)
 
     def close(self) -> None:
         """Leaves the server."""
         with self._one_at_a_time:
             self._leave()
 
-    def _measured(self, measure: Measure, mirror: Mirror, number: int) -> dict[int, Decimal]:
-        """The measures of a feature, and of those beside which QGIS reads with it."""
+    def _measured(self, asked: _Asked, mirror: Mirror, number: int) -> dict[int, Any]:
+        """What is known of a feature, and of those beside which QGIS reads with it."""
         numbers = _with_neighbours(mirror, number)
         try:
-            return self._measures(measure, mirror.name, numbers)
-        except Refusal as refusal:
-            if refusal.told["number"] != _NO_FEATURE or len(numbers) == 1:
+            return self._measures(asked, mirror.name, numbers)
+        except (NotSent, Refusal) as error:
+            if len(numbers) == 1 or (isinstance(error, Refusal) and error.told["number"] != _NO_FEATURE):
                 raise
-            # Somebody has deleted another one just now.
-            return self._measures(measure, mirror.name, [number])
+            # Somebody has deleted another one just now, or the answer would be too long.
+            return self._measures(asked, mirror.name, [number])
 
-    def _measures(self, measure: Measure, layer: str, numbers: list[int]) -> dict[int, Decimal]:
-        units = self.units
-        if measure == "area":
-            return dict(zip(numbers, map(units.area, self._asked(lambda store: store.area(layer, *numbers)))))
-        return dict(zip(numbers, map(units.length, self._asked(lambda store: store.length(layer, *numbers)))))
+    def _measures(self, asked: _Asked, layer: str, numbers: list[int]) -> dict[int, Any]:
+        placing = self._session.placing
+        if asked == "shape":
+            rows = self._asked(lambda store: store.run(f"get {layer} {spelling.identifiers(numbers)}"), placing)
+            return {number: _sum_of(geometry_of_row(row, placing.grid)) for number, row in zip(numbers, rows)}
+        if asked == "area":
+            return dict(zip(numbers, map(placing.units.area, self._asked(lambda store: store.area(layer, *numbers), placing))))
+        return dict(zip(numbers, map(placing.units.length, self._asked(lambda store: store.length(layer, *numbers), placing))))
 
-    def _asked(self, question: Callable[[Editor], _T]) -> _T:
+    def _asked(self, question: Callable[[Editor], _T], placing: Placing) -> _T:
         if time.monotonic() < self._silent_until:
             raise ServerGone(f"Wait a moment: the server of {os.path.basename(self._session.path)} does not answer.")
         is_new = self._asking is None
         try:
-            return self._asked_once(question)
+            return self._asked_once(question, placing)
         except ServerGone as gone:
             if isinstance(gone.__cause__, socket.timeout):
                 self._silent_until = time.monotonic() + _SILENT_SECONDS
             # The server of before has ended. Another one may be there by now.
             if is_new or not isinstance(gone.__cause__, ConnectionError):
                 raise
-            return self._asked_once(question)
+            return self._asked_once(question, placing)
 
-    def _asked_once(self, question: Callable[[Editor], _T]) -> _T:
+    def _asked_once(self, question: Callable[[Editor], _T], placing: Placing) -> _T:
         if self._asking is None:
-            self._asking = Asking(self._session.path, self._name, _SECONDS)
+            self._asking = Asking(self._session.path, self._name, _SECONDS, placing.mark)
+        self._asking.grid = placing.mark
         try:
             return question(Editor(self._asking, ""))
         except ServerGone:
@@ -124,6 +140,11 @@ class Measures:
         asking, self._asking = self._asking, None
         if asking is not None:
             asking.close()
+
+
+def _sum_of(geometry: QgsGeometry) -> int:
+    """A number that another geometry has by a rare chance alone. A geometry itself would take more room."""
+    return hash(bytes(geometry.asWkb()))
 
 
 def _with_neighbours(mirror: Mirror, number: int) -> list[int]:

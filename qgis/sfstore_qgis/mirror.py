@@ -47,6 +47,8 @@ class Mirror(QObject):
         """A mirror that has all; ``kind`` is that of the geometries which it shows."""
         super().__init__()
         self.session, self.name, self.kind = session, name, kind
+        self.mark = f"numbered by the store {session.path}, layer {name}, {kind}"
+        """What its features say of where they are from. Features of another mirror of this store do not say the same."""
         # Layers that are being edited, and whether they have steps that were not sent. Their buffers count fields by
         # places, so that none may go; and behind a step that counts a new one none may come.
         self.held: dict[str, Callable[[], bool]] = {}
@@ -61,7 +63,7 @@ class Mirror(QObject):
         self.numbers: dict[int, int] = {}
         self.layer = QgsVectorLayer(f"{WKB_NAMES[self.kind]}?crs={self.session.crs.authid()}", self.name, "memory")
         self.memory = self.layer.dataProvider()
-        self.fields = Fields(self.memory, columns, self.session.choices(self.name))
+        self.fields = Fields(self.memory, columns, self.session.choices(self.name), self.mark)
         self.load()
         if len(self.fids) <= INDEX_AT_ONCE_MAX:
             self.memory.createSpatialIndex()

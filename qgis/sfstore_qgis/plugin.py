@@ -84,6 +84,7 @@ class Plugin:
         bar.add("name", "My name ..", self._trying(self.choose_name))
         self.switch = bar.add_switch("at-once", "Each edit at once", self.at_once, self.set_at_once)
         self.functions.register()
+        self._connect(self.functions.unheard, self._tell_left_out)
         self.history = History(self._iface.mainWindow(), self)
         self.saving = Saving(self._iface)
         self._connect(self._iface.currentLayerChanged, self.history.look)
@@ -257,6 +258,7 @@ class Plugin:
             self._connect(signal, editing.reshape)
         self._connect_while_shown(editing, layer.undoStack().indexChanged, editing.follow_stack)
         self._connect(layer.nameChanged, editing.take_name)
+        self._connect(layer.crsChanged, partial(self._place, editing))
         self._connect(layer.attributeAdded, lambda *_: editing.touch_columns())
         self._connect(layer.attributeDeleted, lambda *_: editing.touch_columns())
         self._connect(layer.undoStack().indexChanged, partial(self._send_soon, editing))
@@ -283,8 +285,13 @@ class Plugin:
         if crs.isValid() and layer.crs() != crs:
             was = layer.crs().authid() or "none"
             layer.setCrs(crs)
-            words = f"{layer.name()} is shown in the store's reference system, {crs.authid() or 'one without a code'}: the project had {was}."
+            words = f"{layer.name()} is shown in the store's reference system, {crs.authid() or 'one without a code'}, and not in {was}."
             self.teller.tell(words, Qgis.Warning)
+        editing.take_crs()
+
+    def _tell_left_out(self, words: str) -> None:
+        """Tells of an error of a function where QGIS itself tells nobody."""
+        self.teller.tell(f"Mend this, and compute it anew: in an aggregate or a filter QGIS leaves out what has an error. {words}", Qgis.Warning)
 
     def _placed_anew(self, session: Session) -> None:
         """Has the layers of a store lie where it says now."""

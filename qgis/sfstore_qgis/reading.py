@@ -18,7 +18,7 @@ from sfstore.language import GRID_MIN
 from .fields import Places
 from .values import shown
 
-__all__ = ["Row", "geometry_of", "rows_of"]
+__all__ = ["Row", "geometry_of", "geometry_of_row", "rows_of"]
 
 _ROW = re.compile(r"([0-9]+) ([A-Z]+) (\([-0-9 ,()]*\))(.*)")
 _VALUE = re.compile(r" ([A-Za-z][A-Za-z0-9_]*)=([-0-9.:TZa-z]+|E?'[^']*(?:''[^']*)*')")
@@ -58,6 +58,12 @@ def geometry_of(wkt: str, grid: Grid) -> QgsGeometry:
     geometry = QgsGeometry()
     geometry.fromWkb(write_wkb(read_wkt(wkt).mapped(grid.places)))
     return geometry
+
+
+def geometry_of_row(row: str, grid: Grid) -> QgsGeometry:
+    """The geometry of a row."""
+    _, kind, text, _ = _parted(row)
+    return geometry_of(f"{kind} {text}", grid)
 
 
 def _parted(row: str) -> tuple[str, str, str, str]:

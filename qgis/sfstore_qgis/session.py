@@ -14,6 +14,7 @@ from qgis.PyQt.QtCore import QObject, QSocketNotifier, QThread, QTimer, pyqtSign
 from sfstore import journal, sidecar
 from sfstore.exchange.grid import Grid
 from sfstore.mapgrid import MapGrid
+from sfstore.mapunits import MapUnits
 from sfstore.results import Column
 from sfstore.web.changes import renamed_by
 from sfstore.web.client import CallFailed, Client, Events, ServerGone, start_server
@@ -22,7 +23,7 @@ from .following import Followed, followed
 from .mirror import WKB_NAMES, Mirror
 from .values import Choice, choice_of
 
-__all__ = ["LayerRefused", "Refusal", "Session", "Style"]
+__all__ = ["LayerRefused", "Placing", "Refusal", "Session", "Style"]
 
 # How long QGIS waits for a call at most, and for a server that is asked again whether it is there.
 CALL_SECONDS = 5.0
@@ -65,7 +66,7 @@ class Style(NamedTuple):
     """A short text that another style does not have."""
 
 
-class _Placing(NamedTuple):
+class Placing(NamedTuple):
     """Where the steps of a store lie on the map."""
 
     fault: str
@@ -73,7 +74,12 @@ class _Placing(NamedTuple):
     grid: Grid
     crs: Any
     mark: str
-    """That of its grid, by which the server knows it."""
+    """That of its grid, by which the server knows it: what is asked or sent by another grid is refused."""
+
+    @property
+    def units(self) -> MapUnits:
+        """The coordinates of the map."""
+        return MapUnits(*self.grid.words)
 
 
 class Session(QObject):
@@ -116,7 +122,8 @@ class Session(QObject):
     def __init__(self, path: str) -> None:
         super().__init__()
         self.path = path
-        self._placing = _placed(path)
+        self.placing = _placed(path)
+        """Where it lies now. Other threads take it as a whole: another map may come in the store's place."""
         self.mirrors: dict[tuple[str, str], Mirror] = {}
         self.steps: dict[str, dict[str, Any] | None] = {"undo": None, "redo": None}
         self._hidden: set[tuple[str, str]] = set()
@@ -139,17 +146,17 @@ class Session(QObject):
     @property
     def grid(self) -> Grid:
         """The grid of the store: steps of 1 where its side-car says nothing."""
-        return self._placing.grid
+        return self.placing.grid
 
     @property
     def crs(self) -> Any:
         """The reference system of the store, as QGIS has it."""
-        return self._placing.crs
+        return self.placing.crs
 
     @property
     def placing_fault(self) -> str:
         """Why grid and reference system are not known, in sentences; empty where they are, and where there are none."""
-        return self._placing.fault
+        return self.placing.fault
 
     @property
     def editor(self) -> int:
@@ -244,7 +251,7 @@ class Session(QObject):
         """
         seconds = CALL_SECONDS + len(lines) * _LINE_SECONDS + len(corners) * _CORNER_SECONDS
         fitting = {"corners": list(corners), "shown": self.version} if 0 < len(corners) <= CORNERS_MAX else {}
-        answer = self.call("batch", seconds, page=self._token, lines=list(lines), seen=list(seen), grid=self._placing.mark, **fitting)
+        answer = self.call("batch", seconds, page=self._token, lines=list(lines), seen=list(seen), grid=self.placing.mark, **fitting)
         if "refused" in answer:
             raise Refusal(answer["refused"])
         self.changes += 1
@@ -256,7 +263,7 @@ class Session(QObject):
     def line(self, line: str) -> dict[str, Any]:
         """The answer of a line of the console. `Refusal` where it is refused."""
         seconds = _LONG_SECONDS if line in ("undo", "redo", "save") else CALL_SECONDS
-        answer = self.call("line", seconds, page=self._token, line=line, seen=self.version, grid=self._placing.mark)
+        answer = self.call("line", seconds, page=self._token, line=line, seen=self.version, grid=self.placing.mark)
         if "refused" in answer:
             raise Refusal(answer["refused"])
         return answer
@@ -391,9 +398,9 @@ class Session(QObject):
     def _place_anew(self) -> bool:
         """Takes the grid and the reference system that the store has now. Whether they are others than before."""
         placing = _placed(self.path)
-        if placing.mark == self._placing.mark:
+        if placing.mark == self.placing.mark:
             return False
-        self._placing = placing
+        self.placing = placing
         self.placed_anew.emit()
         return True
 
@@ -451,13 +458,13 @@ def _checked(answer: dict[str, Any]) -> dict[str, Any]:
     raise Refusal(answer["refused"])
 
 
-def _placed(path: str) -> _Placing:
+def _placed(path: str) -> Placing:
     """The grid and the reference system of a store, as its side-car says: steps of 1 where it says nothing, and why."""
     known = MapGrid(path)
     fault = f"{known.fault}." if known.fault else ""
     if known.found is None:
-        return _Placing(fault, Grid("0", "0", "1"), QgsCoordinateReferenceSystem(), known.mark)
-    return _Placing(fault, Grid(*known.found.grid), _system(known.found.crs), known.mark)
+        return Placing(fault, Grid("0", "0", "1"), QgsCoordinateReferenceSystem(), known.mark)
+    return Placing(fault, Grid(*known.found.grid), _system(known.found.crs), known.mark)
 
 
 def _system(crs: sidecar.Crs | None) -> Any:

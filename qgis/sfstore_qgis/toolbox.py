@@ -29,7 +29,8 @@ __all__ = ["Near", "Nearest", "Reach", "Toolbox"]
 
 _GIVEN = (
     "Tick <i>Selected features only</i> to ask from these. What is given is brought into the reference system of the store, "
-    "and moved to its grid; the log says how far. Z and M play no part."
+    "and moved to its grid; the log says how far, and in which units distances are. Z and M play no part. What has no geometry, "
+    "or lies where the store has no coordinates, is left out; the log names it. Degrees are refused where the layer has no reference system."
 )
 _KINDS = "Edits of the layer that are not saved have to be saved first."
 
@@ -46,12 +47,12 @@ class Near(FindingNear):
 
     def add_asked(self) -> None:
         super().add_asked()
-        self.addParameter(QgsProcessingParameterDistance(self.DISTANCE, "Distance", 1.0, self.LAYER, minValue=0.0))
+        self.addParameter(QgsProcessingParameterDistance(self.DISTANCE, "Distance, in map units of the layer", 1.0, self.LAYER, minValue=0.0))
 
     def found(self, store: Editor, parameters: Any, context: Any, feedback: Any) -> list[Found]:
         distance = reach_of(self.parameterAsDouble(parameters, self.DISTANCE, context), self.place.units)
-        given = self.given(parameters, context, feedback)
-        return [Found(number) for number in sorted({number for _, wkt in given for number in store.near(self.place.name, distance, wkt)})]
+        answers = self.answers(parameters, context, feedback, lambda wkt: store.near(self.place.name, distance, wkt))
+        return [Found(number) for number in sorted({number for _, numbers in answers for number in numbers})]
 
 
 class Nearest(FindingNear):
@@ -75,9 +76,9 @@ class Nearest(FindingNear):
     def found(self, store: Editor, parameters: Any, context: Any, feedback: Any) -> list[Found]:
         count, units = self.parameterAsInt(parameters, self.NUMBER, context), self.place.units
         return [
-            Found(near.feature_id, (float(units.length(near.steps)), feature))
-            for feature, wkt in self.given(parameters, context, feedback)
-            for near in store.nearest(self.place.name, count, wkt)
+            Found(near.feature_id, (float(units.length(near.steps)), given.feature))
+            for given, nearest in self.answers(parameters, context, feedback, lambda wkt: store.nearest(self.place.name, count, wkt))
+            for near in nearest
         ]
 
 
