@@ -2,6 +2,7 @@
 
 from __future__ import annotations
 
+import json
 import os
 import re
 import signal
@@ -15,6 +16,7 @@ from qgis.core import (
     QgsApplication,
     QgsCoordinateReferenceSystem,
     QgsCoordinateTransform,
+    QgsCsException,
     QgsExpression,
     QgsExpressionContext,
     QgsExpressionContextUtils,
@@ -40,10 +42,11 @@ from qgis.core import (
     QgsVectorLayerSimpleLabeling,
 )
 from qgis.PyQt.QtCore import NULL, QSize, QVariant
-from qgis_support import CROSSED, SQUARE, Plugin, QgisCase, Window
+from qgis_support import CROSSED, SIDECAR, SQUARE, Plugin, QgisCase, Window
 
 from support import FOLDER
 
+from sfstore import files
 from sfstore.web.client import ServerGone
 from sfstore_qgis import measures
 from sfstore_qgis.asking import Asking
@@ -410,6 +413,8 @@ class Elsewhere(Asked):
             self.assertEqual(self.said(), [])
             # QGIS may make a copy of the layer, which brings nothing along.
             self.assertIn(self.asked_of(f"{overlay}('parcels', sfstore_area())", layer, feature), (found, [None], [NULL]))
+            self.turn()
+            self.said()
         self.assertIn(self.asked_of("overlay_nearest('other', sfstore_area())", parcels, self.feature(2)), ([None], [NULL]))
 
     def test_a_copy_is_not_taken_for_its_original(self):
@@ -508,10 +513,16 @@ class Examples(QgisCase):
             self.assertEqual(expression.evalErrorString() + expression.parserErrorString(), "", text)
 
 
-class Algorithms(QgisCase):
-    """What the toolbox asks."""
+def _unwritable(there, values):
+    """A feature that no file of points takes."""
+    made = QgsFeature()
+    made.setGeometry(QgsGeometry.fromWkt(SQUARE))
+    made.setAttributes([*there.attributes(), *values])
+    return made
 
-    lines = LINES
+
+class Toolbox(QgisCase):
+    """An algorithm of the toolbox is asked."""
 
     def setUp(self):
         super().setUp()
@@ -541,14 +552,20 @@ class Algorithms(QgisCase):
         self.assertEqual((results, is_done), ({}, False))
         return feedback.textLog().strip()
 
+    def selected(self, name):
+        return sorted(feature["_id"] for feature in self.layer(name).selectedFeatures())
+
+
+class Algorithms(Toolbox):
+    """What the toolbox asks."""
+
+    lines = LINES
+
     def rows(self, results):
         """The features of the layer that an algorithm has made, as lists of their values."""
         layer = self.context.takeResultLayer(results["OUTPUT"])
         self.assertEqual(layer.crs(), self.session.crs)
         return layer.fields().names(), [(feature.geometry().asWkt(), *feature.attributes()) for feature in layer.getFeatures()]
-
-    def selected(self, name):
-        return sorted(feature["_id"] for feature in self.layer(name).selectedFeatures())
 
     def test_features_within_a_distance_of_a_selected_one(self):
         parcels, wells = self.layer(), self.layer("wells")
@@ -644,6 +661,94 @@ class Algorithms(QgisCase):
             self.refused("near", **near), "Save your edits of parcels first, or take them back: the store does not have them yet."
         )
 
+    def layer_of(self, *geometries, crs="EPSG:25832", kind="Point"):
+        """A layer of no store with these geometries; None is none."""
+        made = QgsVectorLayer(f"{kind}?crs={crs}", "other", "memory")
+        for wkt in geometries:
+            feature = QgsFeature()
+            if wkt is not None:
+                feature.setGeometry(QgsGeometry.fromWkt(wkt))
+            made.dataProvider().addFeature(feature)
+        QgsProject.instance().addMapLayer(made)
+        return made
+
+    def test_what_has_no_place_is_left_out_named_and_counted(self):
+        """So far from its middle the projection has no coordinates, and QGIS raises an error."""
+        parcels = self.layer()
+        system = QgsCoordinateReferenceSystem("EPSG:4326")
+        place = QgsCoordinateTransform(parcels.crs(), system, QgsProject.instance()).transform(QgsPointXY(500000, 5600000))
+        with self.assertRaises(QgsCsException):
+            QgsCoordinateTransform(system, parcels.crs(), QgsProject.instance()).transform(QgsPointXY(98.9, 0))
+        for crs, there, nowhere in (("EPSG:25832", "POINT (500000 5600000)", "POINT (1e9 0)"), ("EPSG:4326", place.asWkt(), "POINT (98.9 0)")):
+            other = self.layer_of("POINT EMPTY", None, there, nowhere, "MULTIPOINT EMPTY", crs=crs)
+            for name, asked in (("near", {"DISTANCE": 1}), ("nearest", {"NUMBER": 1, "OUTPUT": "TEMPORARY_OUTPUT"})):
+                self.feedback = QgsProcessingFeedback()
+                results = self.results(name, LAYER=parcels.id(), FROM=other.id(), **asked)
+                self.assertEqual((results["COUNT"], self.selected("parcels")), (1, [1]))
+                log = self.feedback.textLog()
+                for number in (1, 2, 4, 5):
+                    self.assertIn(f"other {number} is left out. ", log)
+                self.assertIn("4 features of other were left out, since nothing can be asked about them.", log)
+            QgsProject.instance().removeMapLayer(other.id())
+
+    def test_a_point_that_can_not_be_transformed_is_no_point_of_the_map(self):
+        parcels = self.layer()
+        said = self.refused("near", LAYER=parcels.id(), POINT="98.9,0 [EPSG:4326]", DISTANCE=1)
+        self.assertRegex(said, "^(Choose another point: it lies where EPSG:25832 has no coordinates|Ask nearer to the map: )")
+        self.assertRegex(self.refused("near", LAYER=parcels.id(), POINT="500,100 [EPSG:4326]", DISTANCE=1), "^(Choose another point|Ask nearer to the map)")
+
+    def test_which_units_are_meant_is_told(self):
+        for name, asked in (("near", {"DISTANCE": 1}), ("nearest", {"NUMBER": 1})):
+            self.feedback = QgsProcessingFeedback()
+            self.results(name, LAYER=self.layer().id(), POINT="500000,5600000", **asked)
+            words = "Distances and coordinates of town.sfs are meters of EPSG:25832: its grid has steps of 0.1, from 500000 5600000 on."
+            self.assertIn(words, self.feedback.textLog())
+
+    def test_a_question_by_another_grid_is_not_answered(self):
+        """Another program gives the store a side-car with another grid, of which this QGIS has not heard."""
+        wells = self.layer("wells")
+        near = {"LAYER": wells.id(), "POINT": "500030,5600050", "DISTANCE": 1}
+        algorithm = self.begun("near", **near)
+        self.assertTrue(algorithm.prepare(near, self.context, self.feedback))
+        self.assertEqual(self.asked_near(), [1])
+        self.place(self.path, grid=["500000", "5600000", "0.01"])
+        said = "town.sfs has another grid, or another reference system, than when it was opened"
+        with self.assertRaisesRegex(QgsProcessingException, said):
+            algorithm.runPrepared(near, self.context, self.feedback)
+        self.assertIn(said, self.asked_near())
+
+    def asked_near(self):
+        """What an expression gives of the first well, or its error."""
+        wells = self.layer("wells")
+        context = QgsExpressionContext(QgsExpressionContextUtils.globalProjectLayerScopes(wells))
+        context.setFeature(self.feature(1, wells))
+        asked = QgsExpression("sfstore_near('wells', 1, $geometry)")
+        found = asked.evaluate(context)
+        return asked.evalErrorString() or found
+
+    def test_which_feature_can_not_be_asked_about_is_told(self):
+        other = self.layer_of("CIRCULARSTRING (500000 5600000, 500001 5600001, 500002 5600000)", kind="CircularString")
+        said = self.refused("near", LAYER=self.layer().id(), FROM=other.id(), DISTANCE=1)
+        self.assertRegex(said, r"^Ask with straight sides: .* \(other 1\)$")
+
+    def test_of_another_layer_the_number_is_qgis_own(self):
+        """A column of the same name that has no whole numbers lost the whole row."""
+        other = QgsVectorLayer("Point?crs=EPSG:25832&field=_id:string", "other", "memory")
+        feature = QgsFeature(other.fields())
+        feature.setGeometry(QgsGeometry.fromWkt("POINT (500030 5600050)"))
+        feature["_id"] = "A-7"
+        other.dataProvider().addFeature(feature)
+        QgsProject.instance().addMapLayer(other)
+        results = self.results("nearest", LAYER=self.layer("wells").id(), FROM=other.id(), NUMBER=1, OUTPUT="TEMPORARY_OUTPUT")
+        self.assertEqual([row[1:] for row in self.rows(results)[1]], [(1, 0.0, 1)])
+
+    def test_what_can_not_be_written_is_told(self):
+        wells = self.layer("wells")
+        target = str(self.folder / "full.shp")
+        with mock.patch("sfstore_qgis.finding._with_values", side_effect=_unwritable):
+            said = self.refused("near", LAYER=wells.id(), POINT="500030,5600050", DISTANCE=1, OUTPUT=target)
+        self.assertIn("Could not write feature", said)
+
     def test_layers_of_two_stores_make_no_network(self):
         other = self.folder / "other.sfs"
         self.make(b"layer add taps point\nadd taps POINT (200 1000)\n", other)
@@ -691,6 +796,54 @@ class Algorithms(QgisCase):
         self.assertIsNone(registry.providerById("sfstore"))
         self.plugin = Plugin(Window())
         self.plugin.initGui()
+
+
+class Unplaced(Toolbox):
+    """The toolbox over a store of which no reference system is known."""
+
+    lines = LINES
+    grid = ("0", "0", "1")
+
+    def place(self, path, grid=None, crs=""):
+        told = {**SIDECAR, "grid": list(grid or self.grid), "crs": None, "digests": [files.digest(str(path))]}
+        path.with_name(path.name + ".json").write_text(json.dumps(told))
+
+    def other(self, crs):
+        made = QgsVectorLayer(f"Point?crs={crs}", "other", "memory")
+        feature = QgsFeature()
+        feature.setGeometry(QgsGeometry.fromWkt("POINT (9 50)"))
+        made.dataProvider().addFeature(feature)
+        QgsProject.instance().addMapLayer(made)
+        return made
+
+    def test_degrees_are_no_map_units(self):
+        parcels = self.layer()
+        self.assertFalse(parcels.crs().isValid())
+        said = "Give parcels its reference system first, by Set Layer CRS: {} is in degrees, of EPSG:4326, and of parcels it is not known where on the earth it lies."
+        for name, asked in (("near", {"DISTANCE": 9}), ("nearest", {"NUMBER": 1})):
+            self.assertEqual(self.refused(name, LAYER=parcels.id(), FROM=self.other("EPSG:4326").id(), **asked), said.format("other"))
+            self.assertEqual(self.refused(name, LAYER=parcels.id(), POINT="9,50 [EPSG:4326]", **asked), said.format("the point"))
+        context = QgsExpressionContext(QgsExpressionContextUtils.globalProjectLayerScopes(self.other("EPSG:4326")))
+        context.setFeature(next(self.other("EPSG:4326").getFeatures()))
+        asked = QgsExpression("sfstore_distance('parcels', 1, $geometry)")
+        asked.evaluate(context)
+        self.assertEqual(asked.evalErrorString(), "Give parcels its reference system first: it has none, and this geometry is in degrees, of EPSG:4326.")
+
+    def test_others_are_taken_as_they_are_and_that_is_told(self):
+        self.results("near", LAYER=self.layer("wells").id(), FROM=self.other("EPSG:25832").id(), DISTANCE=600)
+        self.assertIn("wells has no reference system: the coordinates of other, of EPSG:25832, are taken as they are.", self.feedback.textLog())
+        self.assertIn("are map units, of no reference system that is known: its grid has steps of 1, from 0 0 on.", self.feedback.textLog())
+        # A map shows the layer by its own coordinates, in whichever reference system the map is.
+        self.results("near", LAYER=self.layer("wells").id(), POINT="1050,50 [EPSG:4326]", DISTANCE=0)
+        self.assertEqual(self.selected("wells"), [2])
+
+    def test_a_reference_system_that_the_user_gives_counts(self):
+        wells = self.layer("wells")
+        wells.setCrs(QgsCoordinateReferenceSystem("EPSG:3857"))
+        place = QgsCoordinateTransform(wells.crs(), QgsCoordinateReferenceSystem("EPSG:4326"), QgsProject.instance()).transform(QgsPointXY(1050, 50))
+        self.results("near", LAYER=wells.id(), POINT=f"{place.x()!r},{place.y()!r} [EPSG:4326]", DISTANCE=0)
+        self.assertEqual(self.selected("wells"), [2])
+        self.assertIn("are meters of EPSG:3857", self.feedback.textLog())
 
 
 if __name__ == "__main__":
