@@ -4,6 +4,7 @@ from __future__ import annotations
 
 import base64
 import html
+import json
 import os
 import random
 import re
@@ -1392,6 +1393,40 @@ class StylesKept(QgisCase):
         self.assertEqual(len([each for each in self.said() if "town.sfs.qgis can't be read" in each]), 1)
         self.assertIn("can't be read", self.use("Keep the style with the store"))
         self.assertEqual(Path(f"{self.path}.qgis").read_text(), "{")
+
+
+    def test_one_style_that_can_not_be_read_keeps_no_other_one_away(self):
+        self.style()
+        self.use("Keep the style with the store")
+        before, kept = self.look(), self.kept()["qml"]
+        self.server().kill()
+        self.server().wait()
+        file = Path(f"{self.path}.qgis")
+        content = json.loads(file.read_text())
+        content["layers"]["wells"] = {"": {"qml": "<qgis><mapTip>x</mapTip></qgis>", "by": "Eve"}}
+        file.write_text(json.dumps(content))
+        self.wait_for(lambda: self.session.is_connected is False)
+        self.wait_for(lambda: self.session.is_connected)
+        self.open_again()
+        self.assertEqual(self.look(), before)
+        [said] = [each for each in self.said() if "can't be read" in each]
+        self.assertIn("The style of wells in ", said)
+        self.style("#ffff00")
+        self.assertIn("is kept with the store", self.use("Keep the style with the store"))
+        self.assertEqual(json.loads(file.read_text())["layers"]["wells"], content["layers"]["wells"])
+        # A project of before is told of both: whose style is another one, and whose can't be read.
+        ben = self.ben()
+        project = str(self.folder / "town.qgs")
+        self.assertTrue(QgsProject.instance().write(project))
+        ben.call("save-qml", layer="parcels", qml=kept, seen=self.kept()["mark"])
+        QgsProject.instance().clear()
+        self.turn(0.1)
+        self.said()
+        self.assertTrue(QgsProject.instance().read(project))
+        self.session = Session.of(str(self.path))
+        said = " ".join(self.said())
+        self.assertIn("parcels looks as your project has it, and the store has another style.", said)
+        self.assertIn("The style of wells in ", said)
 
 
 class ValuesRuled(QgisCase):

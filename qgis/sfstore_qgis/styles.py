@@ -50,7 +50,14 @@ class Styles:
     def check(self, editings: list[Editing]) -> None:
         """Says which layers look otherwise than the store says: those of a project that was read have the project's own style."""
         read = [each for each in editings if each.key not in self._opened]
-        differ = [each.layer.name() for each in read if _differs(each)]
+        differ, faults = [], {}
+        for each in read:
+            try:
+                differ += [each.layer.name()] if _differs(each) else []
+            except (CallFailed, LayerRefused, ServerGone) as error:
+                faults[str(error)] = error
+        for fault in faults:
+            self._teller.tell(fault, Qgis.Warning)
         if differ:
             names = ", ".join(sorted(differ))
             self._teller.tell(f"Show the store's style, if you want that: {names} looks as your project has it, and the store has another style.")

@@ -444,7 +444,7 @@ class Calls:
 
     def _styles_of(self, editor: int, body: Body) -> Body:
         """How layers look, by their names, and what is wrong with the file that says it, if anything is."""
-        return {"styles": self.styles.all(), "fault": self.styles.fault}
+        return {"styles": self.styles.all(), "fault": " ".join(self.styles.faults())}
 
     def _style(self, editor: int, body: Body) -> Body:
         """Has a layer look otherwise, for all: a whole style, some fields of it, or as it does by itself where none is given."""
@@ -473,7 +473,7 @@ class Calls:
         told: Body = {"qml": None, "by": None, "mark": None}
         if found is not None:
             told = {**found._asdict(), "mark": found.mark}
-        return {**told, "fault": self.qgis_styles.fault}
+        return {**told, "fault": self.qgis_styles.fault_at(layer, kind)}
 
     def _save_qml(self, editor: int, body: Body) -> Body:
         """Has a layer look otherwise in QGIS, for all who open it there; as QGIS has it by itself where no style is given."""

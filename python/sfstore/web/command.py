@@ -134,7 +134,7 @@ def _serve(asked: argparse.Namespace, keeper: Keeper, background: Background | N
 
     calls = Calls(asked.file, keeper, asked.program, asked.seconds, background)
     try:
-        for fault in filter(None, (calls.styles.fault, calls.qgis_styles.fault)):
+        for fault in (*calls.styles.faults(), *calls.qgis_styles.faults()):
             print(f"sfstore-web: {fault}", file=sys.stderr)
         with Server(calls, asked.port, background) as server:
             for number in (signal.SIGINT, signal.SIGTERM):

@@ -7,12 +7,13 @@ from __future__ import annotations
 
 import hashlib
 from collections.abc import Mapping
-from typing import NamedTuple
+from functools import partial
+from typing import NamedTuple, Union
 
 from sfstore.language import KINDS
 from sfstore.web.editors import EditorsError, as_name
 from sfstore.web.qml import check
-from sfstore.web.stylefile import StyleError, StyleFile
+from sfstore.web.stylefile import StyleError, StyleFile, Unread, read_or_kept
 
 __all__ = ["QgisStyle", "QgisStyles", "SavedMeanwhile", "kind_of"]
 
@@ -20,7 +21,7 @@ _FORM = "sfstore styles of QGIS 1"
 # Room for some thousand styles as QGIS writes them.
 _BYTES_MAX = 1 << 26
 
-_ByKind = Mapping[str, Mapping[str, str]]
+_ByKind = Mapping[str, Union[Mapping[str, str], Unread]]
 
 
 class QgisStyle(NamedTuple):
@@ -53,7 +54,18 @@ class QgisStyles(StyleFile[_ByKind]):
     def style(self, layer: str, kind: str) -> QgisStyle | None:
         """The style of a layer, or of one kind of its geometries."""
         found = self.all().get(layer, {}).get(kind)
-        return None if found is None else QgisStyle(found["qml"], found["by"])
+        return None if found is None or isinstance(found, Unread) else QgisStyle(found["qml"], found["by"])
+
+    def fault_at(self, layer: str, kind: str) -> str:
+        """Why the style of a layer, or of one kind of its geometries, can't be read, in a sentence; empty where it can, and where there is none."""
+        kinds = self._kept.styles.get(layer, {})
+        found = kinds if isinstance(kinds, Unread) else kinds.get(kind)
+        return self.fault or (self.fault_of(_titled(layer, kind), found) if isinstance(found, Unread) else "")
+
+    def faults(self) -> list[str]:
+        """What can't be read, in a sentence for each: the file, or styles in it, of one kind of geometries too."""
+        kinds = [(layer, kind) for layer, styles in self.all().items() for kind, style in styles.items() if isinstance(style, Unread)]
+        return [*super().faults(), *(self.fault_at(layer, kind) for layer, kind in kinds)]
 
     def save(self, layer: str, kind: str, style: QgisStyle | None, seen: str | None) -> list[str]:
         """Has a style in the place of the one whose mark was seen, or none. `SavedMeanwhile` where another one is there.
@@ -82,10 +94,15 @@ def _by_kind(content: object) -> _ByKind:
     """The styles of a layer as the file has them."""
     if not isinstance(content, dict):
         raise StyleError("its styles have to be an object")
-    return {kind_of(kind): _style(each) for kind, each in content.items()}
+    return {kind: read_or_kept(partial(_style, kind), each) for kind, each in content.items()}
 
 
-def _style(content: object) -> Mapping[str, str]:
+def _titled(layer: str, kind: str) -> str:
+    return f"{layer} ({kind})" if kind else layer
+
+
+def _style(kind: str, content: object) -> Mapping[str, str]:
+    kind_of(kind)
     qml, by = (content.get("qml"), content.get("by")) if isinstance(content, dict) else (None, None)
     if not isinstance(qml, str) or not isinstance(by, str):
         raise StyleError("a style of QGIS has to have qml, and by whom it is")

@@ -1,4 +1,7 @@
-"""A file of styles beside a store, which is written whole: each style goes with its layer, and none is taken that is no style."""
+"""A file of styles beside a store, which is written whole: each style goes with its layer, and none is taken that is no style.
+
+One that is none, as somebody has edited the file, stays there as it is, and no other one minds it.
+"""
 
 from __future__ import annotations
 
@@ -7,13 +10,14 @@ import json
 import os
 import threading
 from collections.abc import Callable, Mapping, Sequence
+from dataclasses import dataclass
 from typing import Any, Generic, NamedTuple, TypeVar
 
 from sfstore import files
 from sfstore.language import NAME
 from sfstore.web.steps import LayerChange
 
-__all__ = ["StyleError", "StyleFile"]
+__all__ = ["StyleError", "StyleFile", "Unread", "read_or_kept"]
 
 _Style = TypeVar("_Style", bound=Mapping[str, Any])
 _T = TypeVar("_T")
@@ -30,6 +34,14 @@ class StyleError(Exception):
     """A style, or a file of styles, is none. The text says why."""
 
 
+@dataclass(frozen=True)
+class Unread:
+    """What stands in a file in the place of a style, and is none. It is written as it was read."""
+
+    content: object
+    why: str
+
+
 class StyleFile(Generic[_Style]):
     """The styles of a store's layers, by their names, kept in a file beside it.
 
@@ -37,7 +49,8 @@ class StyleFile(Generic[_Style]):
     whatever another one of its name had. The file says how far it has followed the journal, so that what the program alone
     has done meanwhile is followed too; what it has saved as well is not known.
 
-    Where the file can't be read, nothing is written over it, and `fault` says why.
+    Where the file can't be read, nothing is written over it, and `fault` says why. Where one style in it is none, its layer has
+    none until it gets another one, and `faults` says why.
     """
 
     def __init__(self, store: str, ending: str, form: str, read: Callable[[object], _Style], bytes_max: int) -> None:
@@ -58,7 +71,16 @@ class StyleFile(Generic[_Style]):
 
     def all(self) -> Mapping[str, _Style]:
         """The styles by the names of layers; a layer without one is not there."""
-        return self._kept.styles
+        return {layer: style for layer, style in self._kept.styles.items() if not isinstance(style, Unread)}
+
+    def faults(self) -> list[str]:
+        """What can't be read, in a sentence for each: the file, or styles in it."""
+        unread = [self.fault_of(layer, style) for layer, style in self._kept.styles.items() if isinstance(style, Unread)]
+        return [self.fault] if self.fault else unread
+
+    def fault_of(self, layer: str, unread: Unread) -> str:
+        """What is said of a style that can't be read."""
+        return f"The style of {layer} in {self._path} can't be read: {unread.why}. It stays there until {layer} gets another one; others are not touched by it."
 
     def set(self, layer: str, style: _Style | None) -> list[str]:
         """Gives a layer a style, or takes it away. `StyleError` where the file can't be read, `OSError` where it can't be written.
@@ -119,7 +141,10 @@ class StyleFile(Generic[_Style]):
             content["journal"] = {"head": kept.head, "followed": kept.followed}
         if kept.gone:
             content["gone"] = kept.gone
-        return json.dumps(content, indent=1).encode() + b"\n"
+        try:
+            return json.dumps(content, indent=1, default=_content_of).encode() + b"\n"
+        except RecursionError:
+            raise StyleError("what can't be read in the file is too deep to be written again") from None
 
 
 class _Kept(NamedTuple):
@@ -132,6 +157,18 @@ class _Kept(NamedTuple):
     """The head of the journal that was followed; none where that is not known."""
     followed: int
     """How many of its changes of layers were followed."""
+
+
+def read_or_kept(read: Callable[[object], _T], content: object) -> _T | Unread:
+    """A style as a file has it, or what stands in the place of one."""
+    try:
+        return read(content)
+    except StyleError as error:
+        return Unread(content, str(error))
+
+
+def _content_of(unread: Unread) -> object:
+    return unread.content
 
 
 def _followed(kept: _Kept, change: LayerChange) -> _Kept:
@@ -183,22 +220,17 @@ def _read(path: str, form: str, read: Callable[[object], Any], bytes_max: int) -
         raise StyleError(f"it has not the format {form!r}")
     gone = _gone_of(content.get("gone", {}), read)
     head, followed = _journal_of(content.get("journal"))
-    return _Kept(_by_layer(content.get("layers"), read), gone, head, followed)
+    return _Kept(_by_layer(content.get("layers"), lambda each: read_or_kept(read, each)), gone, head, followed)
 
 
 def _by_layer(content: object, read: Callable[[object], _T]) -> dict[str, _T]:
     """What layers have, by their names."""
     if not isinstance(content, dict):
         raise StyleError("it has no styles by the names of layers")
-    found = {}
-    for layer, value in content.items():
+    for layer in content:
         if NAME.fullmatch(layer) is None:
             raise StyleError(f"{layer[:40]!r} is no name of a layer")
-        try:
-            found[layer] = read(value)
-        except StyleError as error:
-            raise StyleError(f"of {layer}: {error}") from None
-    return found
+    return {layer: read(value) for layer, value in content.items()}
 
 
 def _gone_of(content: object, read: Callable[[object], Any]) -> dict[str, _Gone]:
@@ -209,7 +241,7 @@ def _gone_of(content: object, read: Callable[[object], Any]) -> dict[str, _Gone]
     def listed(styles: object) -> list[Any]:
         if not isinstance(styles, list):
             raise StyleError("styles of layers that are gone have to be a list")
-        return [read(each) for each in styles]
+        return [read_or_kept(read, each) for each in styles]
 
     return {verb: _by_layer(each, listed) for verb, each in content.items()}
 

@@ -8,6 +8,7 @@ import errno
 import gzip
 import json
 import os
+import re
 import signal
 import time
 import unittest
@@ -21,6 +22,7 @@ from sfstore import sidecar
 from sfstore.web.client import CallFailed, Client
 from sfstore.web.qgisstyles import QgisStyle, QgisStyles, SavedMeanwhile
 from sfstore.web.qml import BYTES_MAX, check
+from sfstore.web.steps import LayerChange
 from sfstore.web.stylefile import StyleError
 
 TYPE = "<!DOCTYPE qgis PUBLIC 'http://mrcc.com/qgis.dtd' 'SYSTEM'>\n"
@@ -333,18 +335,13 @@ class File(WebCase):
 
     def test_what_is_damaged_or_hostile_is_not_taken_and_not_written_over(self):
         inner = '{"format": "sfstore styles of QGIS 1", "layers": %s}'
-        hostile = json.dumps(styled(symbol("SvgMarker", ("name", "http://evil.example/x.svg"))))
         for text in (
             "",
             "[" * 100_000,
             '{"format": "sfstore styles 1", "layers": {}}',
-            inner % '{"w": []}',
-            inner % '{"w": {"": "x"}}',
-            inner % '{"w": {"": {"qml": "<qgis/>"}}}',
-            inner % '{"w": {"": {"qml": "<qgis/>", "by": "<b>\\u0000"}}}',
-            inner % '{"w": {"house": {"qml": "<qgis/>", "by": "Ann"}}}',
-            inner % ('{"w": {"": {"by": "Ann", "qml": %s}}}' % hostile),
-            inner[:-1] % "{}" + ', "gone": {"undo": {"w": [{"": {"qml": "<x/>", "by": "Ann"}}]}}}',
+            inner % "[]",
+            inner % '{"no name": {}}',
+            inner[:-1] % "{}" + ', "gone": {"w": []}}',
             b"\xff\xfe\x00",
         ):
             with self.subTest(text=text[:80]):
@@ -356,6 +353,30 @@ class File(WebCase):
                 with self.assertRaises(StyleError):
                     styles.save("w", "", QgisStyle(GREEN, "Ann"), None)
                 self.assertEqual(self.file.read_bytes(), data)
+
+    def test_a_style_that_is_none_minds_no_other_one(self):
+        """It is named, it stays in the file as it is, and goes with its layer, until that gets another one."""
+        good = {"qml": GREEN, "by": "Ann"}
+        hostile = {"by": "Ann", "qml": styled(symbol("SvgMarker", ("name", "http://evil.example/x.svg")))}
+        for bad in ([], {"": "x"}, {"": {"qml": "<qgis/>"}}, {"": {"qml": "<qgis/>", "by": "<b>\0"}}, {"": hostile}, {"": 1, "point": good}, {"house": good, "point": good}):
+            with self.subTest(bad=str(bad)[:60]):
+                gone = {"undo": {"gone": [bad]}}
+                content = {"format": "sfstore styles of QGIS 1", "layers": {"w": bad, "v": {"": good}}, "journal": {"head": "h", "followed": 0}, "gone": gone}
+                self.file.write_text(json.dumps(content))
+                styles = QgisStyles(str(self.path))
+                self.assertEqual((styles.fault, styles.style("v", ""), styles.fault_at("v", "")), ("", QgisStyle(GREEN, "Ann"), ""))
+                self.assertIsNone(styles.style("w", ""))
+                if "point" in bad:
+                    self.assertEqual((styles.style("w", "point"), styles.fault_at("w", "point")), (QgisStyle(GREEN, "Ann"), ""))
+                [fault] = styles.faults()
+                self.assertRegex(fault, r"^The style of w( \(house\))? in .*town\.sfs\.qgis can't be read: .*; others are not touched by it\.$")
+                self.assertEqual(styles.save("v", "", QgisStyle(RED, "Ben"), styles.style("v", "").mark), [])
+                self.assertEqual(json.loads(self.file.read_text()), {**content, "layers": {"w": bad, "v": {"": {"qml": RED, "by": "Ben"}}}})
+                self.assertTrue(styles.catch_up("h", [LayerChange("w", "x", "")]))
+                self.assertEqual(json.loads(self.file.read_text())["layers"]["x"], bad)
+                self.assertEqual(QgisStyles(str(self.path)).faults(), [re.sub(r"\bw\b", "x", fault)])
+                styles.save("x", "", QgisStyle(GREEN, "Ann"), None)
+                self.assertEqual(styles.style("x", ""), QgisStyle(GREEN, "Ann"))
 
     def test_a_pipe_and_a_huge_file_hold_nothing_up(self):
         os.mkfifo(self.file)

@@ -246,17 +246,10 @@ class File(WebCase):
             '{"layers": {}}',
             '{"format": "sfstore styles 2", "layers": {}}',
             inner % "[]",
-            inner % '{"w": []}',
-            inner % '{"w": {"colour": "red"}}',
-            inner % '{"w": {"colour": "#0b5fa5\\" onload=\\"alert(1)"}}',
             inner % '{"<script>alert(1)</script>": {}}',
-            inner % '{"w": {"label": "</script><img src=x>"}}',
-            inner % '{"w": {"size": 1e999}}',
-            inner % '{"w": {"size": NaN}}',
             inner[:-1] % "{}" + ', "gone": []}',
             inner[:-1] % "{}" + ', "gone": {"w": {}}}',
             inner[:-1] % "{}" + ', "gone": {"undo": {"w": {}}}}',
-            inner[:-1] % "{}" + ', "gone": {"undo": {"w": [{"colour": "red"}]}}}',
             inner[:-1] % "{}" + ', "journal": {"head": 5, "followed": 0}}',
             inner[:-1] % "{}" + ', "journal": {"head": "", "followed": -1}}',
             b"\xff\xfe\x00",
@@ -270,6 +263,30 @@ class File(WebCase):
                 with self.assertRaises(StyleError):
                     styles.set("w", {"size": 5})
                 self.assertEqual(self.file.read_bytes(), data)
+
+    def test_a_style_that_is_none_minds_no_other_one(self):
+        """It is named, and stays in the file as it is until its layer gets another one."""
+        for bad in (
+            "[]",
+            '{"colour": "red"}',
+            '{"colour": "#0b5fa5\\" onload=\\"alert(1)"}',
+            '{"label": "</script><img src=x>"}',
+            '{"size": 1e999}',
+            '{"size": NaN}',
+        ):
+            with self.subTest(bad=bad):
+                layers = '{"format": "sfstore styles 1", "layers": {"w": %s, "v": {"size": 7}}, "gone": {"undo": {"u": [%s]}}}' % (bad, bad)
+                self.file.write_text(layers)
+                styles = Styles(str(self.path))
+                self.assertEqual((styles.all(), styles.fault), ({"v": {"size": 7}}, ""))
+                [fault] = styles.faults()
+                self.assertRegex(fault, r"^The style of w in .*town\.sfs\.styles can't be read: .*; others are not touched by it\.$")
+                styles.change("v", {"size": 8})
+                again = json.loads(self.file.read_text())
+                self.assertEqual(str(again), str(json.loads(layers.replace("7", "8"))))
+                self.assertEqual(Styles(str(self.path)).faults(), [fault])
+                styles.set("w", {"size": 5})
+                self.assertEqual((styles.faults(), Styles(str(self.path)).all()), ([], {"w": {"size": 5}, "v": {"size": 8}}))
 
     def test_a_pipe_and_a_huge_file_hold_nothing_up(self):
         os.mkfifo(self.file)
