@@ -255,13 +255,13 @@ class Commits(QgisCase):
         said = " ".join(self.said())
         words = "Move or remove a corner: the border meets itself at (500523.33 5600053.33). (parcels, 13 RingNotSimple)"
         self.assertIn(words, said)
-        self.assertEqual(len(self.plugin.teller._markers), 2)
+        self.assertEqual(len(self.plugin.teller.markers), 2)
         self.assertEqual(len(parcels.editBuffer().addedFeatures()), 1)
         self.assertEqual(parcels.editBuffer().deletedFeatureIds(), [self.fid(3)])
         self.assertIn(3, self.stored())
         parcels.changeGeometry(drawn.id(), QgsGeometry.fromWkt(SQUARE))
         self.assertTrue(parcels.commitChanges(), parcels.commitErrors())
-        self.assertEqual(len(self.plugin.teller._markers), 0)
+        self.assertEqual(len(self.plugin.teller.markers), 0)
         self.settle()
         self.assert_alike()
 
@@ -272,7 +272,7 @@ class Commits(QgisCase):
         self.draw(CROSSED)
         self.layer().commitChanges()
         self.turn()
-        band, marker = self.plugin.teller._markers
+        band, marker = self.plugin.teller.markers
         shown = QgsCoordinateTransform(self.layer().crs(), system, QgsProject.instance())
         place = shown.transform(QgsPointXY(500523.0 + 1 / 3, 5600053.0 + 1 / 3))
         self.assertLess(marker.center().distance(place), 0.1)
@@ -283,7 +283,7 @@ class Commits(QgisCase):
         self.draw(CROSSED)
         self.turn()
         self.assertIn("(parcels, not sent yet, 13 RingNotSimple)", " ".join(self.said()))
-        self.assertEqual(len(self.plugin.teller._markers), 2)
+        self.assertEqual(len(self.plugin.teller.markers), 2)
         self.assertEqual(len(self.stored()), 200)
 
     def test_features_get_numbers_in_the_order_in_which_they_were_drawn(self):
@@ -1722,7 +1722,7 @@ class Ruled(QgisCase):
         text, [button] = self.shown()
         self.assertIn(self.APART, text)
         # The feature that is there, and the one that was drawn.
-        self.assertEqual(len(self.plugin.teller._markers), 2)
+        self.assertEqual(len(self.plugin.teller.markers), 2)
         button.click()
         self.assertEqual([feature["_id"] for feature in parcels.selectedFeatures()], [10])
         self.assertEqual(wells.selectedFeatureCount(), 0)
@@ -1759,7 +1759,7 @@ class Ruled(QgisCase):
         button.click()
         self.assertEqual(parcels.selectedFeatureCount(), 0)
         self.assertTrue(parcels.commitChanges(), parcels.commitErrors())
-        self.assertEqual(len(self.plugin.teller._markers), 0)
+        self.assertEqual(len(self.plugin.teller.markers), 0)
         self.settle()
         self.assert_alike()
 
@@ -1784,7 +1784,7 @@ class Ruled(QgisCase):
         wanted = "Draw it elsewhere, or first what it needs: wells 5 would lie within none of parcels; wells 5 is the new one."
         self.assertIn(f"{wanted} (wells, rule placed, 37 RuleBroken)", text)
         # What was drawn is shown in red, and there is nothing else to see.
-        self.assertEqual((buttons, len(self.plugin.teller._markers)), ([], 1))
+        self.assertEqual((buttons, len(self.plugin.teller.markers)), ([], 1))
         wells.rollBack()
 
     def test_a_rule_by_a_distance_is_told_in_metres(self):
@@ -1808,7 +1808,7 @@ class Ruled(QgisCase):
             text, buttons = self.shown()
             self.assertIn(wanted, text)
             # A well that is there can be shown.
-            self.assertEqual((len(buttons), len(self.plugin.teller._markers)), (shown - 1, shown))
+            self.assertEqual((len(buttons), len(self.plugin.teller.markers)), (shown - 1, shown))
             wells.rollBack()
             self.window.messages.clearWidgets()
 
@@ -1996,7 +1996,7 @@ class AtOnce(QgisCase):
         self.set(10, "owner", "still going")
         self.turn()
         self.assertIn("still going", self.stored()[10])
-        self.assertEqual(len(self.plugin.teller._markers), 0)
+        self.assertEqual(len(self.plugin.teller.markers), 0)
 
     def test_one_that_breaks_a_rule_is_taken_back_and_told(self):
         self.bens(self.ben(), "rule add apart never parcels T******** parcels")
@@ -2216,6 +2216,20 @@ class Others(QgisCase):
         self.settle()
         self.assert_alike()
 
+    def test_what_is_selected_stays_so(self):
+        """By itself QGIS selects nothing any more whenever others change something of the layer."""
+        parcels, ben = self.layer(), self.ben()
+        parcels.startEditing()
+        drawn = self.draw(SQUARE)
+        [added] = parcels.editBuffer().addedFeatures()
+        for is_at_first in (True, False):
+            parcels.selectByIds([self.fid(2), self.fid(3), added])
+            self.bens(ben, "set parcels 3 owner 'Ben'" if is_at_first else "delete parcels 3")
+            names = sorted(parcels.selectedFeatureIds())
+            self.assertEqual(names, sorted([self.fid(2), added, *([self.fid(3)] if is_at_first else [])]))
+        self.assertTrue(drawn.isValid())
+        parcels.rollBack()
+
     def test_a_conflict_is_told_and_nothing_is_overwritten(self):
         ben, parcels = self.ben(), self.layer()
         parcels.startEditing()
@@ -2405,6 +2419,103 @@ class Unseen(QgisCase):
         parcels.startEditing()
         self.set(7, "owner", "third")
         self.assertTrue(parcels.commitChanges(), parcels.commitErrors())
+
+
+class TwoStores(QgisCase):
+    """A day with two stores on two grids, both open at once."""
+
+    at_once = True
+
+    def setUp(self):
+        super().setUp()
+        self.east = self.folder / "east.sfs"
+        self.make(b"layer add fields polygon\nadd fields POLYGON ((0 0, 300 0, 300 400, 0 0))\n", self.east)
+        self.place(self.east, grid=["400000.05", "5600000", "0.1"], crs="25833")
+        self.plugin.open(str(self.east))
+        self.fields = self.layer("fields")
+
+    def test_what_one_has_refused_is_told_beside_what_the_other_one_takes_or_refuses(self):
+        parcels = self.layer()
+        parcels.startEditing()
+        self.fields.startEditing()
+        crossed = "POLYGON((400100.05 5600000, 400130.05 5600030, 400130.05 5600000, 400100.05 5600024, 400100.05 5600000))"
+        right = "POLYGON((400100.05 5600000, 400130.05 5600000, 400130.05 5600030, 400100.05 5600000))"
+        for theirs, words in ((right, ["parcels"]), (crossed, ["fields", "parcels"])):
+            # In one turn, so that both are sent in one go.
+            self.draw(CROSSED)
+            self.draw(theirs, self.fields)
+            self.turn(0.3)
+            told = [each for each in self.said() if "RingNotSimple" in each]
+            self.assertEqual(sorted(re.findall(r"\((\w+), 13 RingNotSimple\)", " ".join(told))), words)
+        self.draw(SQUARE)
+        self.turn(0.3)
+        # What the other one has refused is marked still.
+        self.assertEqual(len(self.plugin.teller.markers), 2)
+
+    def test_each_is_drawn_on_its_own_grid(self):
+        precision = [layer.geometryOptions().geometryPrecision() for layer in (self.layer(), self.fields)]
+        # QGIS can have grids from 0 on.
+        self.assertEqual(precision, [0.1, 0.0])
+        self.place(self.path, grid=["500000.05", "5600000", "0.1"])
+        self.server().kill()
+        self.server().wait()
+        self.wait_for(lambda: not self.session.is_connected)
+        self.wait_for(lambda: self.session.is_connected)
+        self.wait_for(lambda: self.layer().geometryOptions().geometryPrecision() == 0.0)
+
+    def test_a_reference_system_that_somebody_sets_does_not_move_what_is_drawn(self):
+        """Drawn in another one, coordinates would go to the store as if they were its own."""
+        self.said()
+        self.fields.setCrs(QgsCoordinateReferenceSystem("EPSG:25832"))
+        self.assertEqual(self.fields.crs().authid(), "EPSG:25833")
+        self.assertEqual(self.said(), ["fields is shown in the store's reference system, EPSG:25833, and not in EPSG:25832."])
+
+    def test_of_a_file_that_was_opened_anew_the_new_session_counts(self):
+        file = str(self.folder / "town.qgs")
+        self.plugin.open(str(self.east))
+        self.assertTrue(QgsProject.instance().write(file))
+        QgsProject.instance().clear()
+        self.turn(0.2)
+        self.assertTrue(QgsProject.instance().read(file))
+        self.window.make_active(None)
+        QgsProject.instance().removeMapLayers([layer.id() for layer in QgsProject.instance().mapLayers().values() if layer.name() != "fields"])
+        self.turn(0.2)
+        self.plugin.add_layer("trees", "point")
+        self.assertEqual([layer["name"] for layer in Session.of(str(self.east)).layers()], ["fields", "trees"])
+
+    def test_a_reference_system_that_qgis_does_not_know_is_told(self):
+        odd = self.folder / "odd.sfs"
+        self.make(b"layer add rocks point\nadd rocks POINT (3 5)\n", odd)
+        self.place(odd, crs="99999")
+        self.said()
+        self.plugin.open(str(odd))
+        said = "Give its layers one by Set Layer CRS: QGIS does not know the reference system of odd.sfs, EPSG:99999."
+        self.assertIn(said, self.said())
+        self.layer("rocks").setCrs(QgsCoordinateReferenceSystem("EPSG:25833"))
+        self.assertEqual(self.layer("rocks").crs().authid(), "EPSG:25833")
+
+    def test_a_place_that_the_map_can_not_show_is_told_without_a_mark(self):
+        """The map is shown in a projection that has no such place."""
+        self.window.canvas.setDestinationCrs(QgsCoordinateReferenceSystem("PROJ:+proj=tmerc +lon_0=-81 +datum=WGS84"))
+        self.fields.startEditing()
+        far = self.folder / "far.sfs"
+        self.make(b"layer add plots polygon\n", far)
+        self.place(far, grid=["0", "0", "0.1"], crs="3857")
+        self.plugin.open(str(far))
+        plots = self.layer("plots")
+        plots.startEditing()
+        self.said()
+        self.draw("POLYGON((1000000 0, 1000030 30, 1000030 0, 1000000 24, 1000000 0))", plots)
+        self.turn(0.3)
+        self.assertIn("RingNotSimple", " ".join(self.said()))
+
+    def test_an_empty_geometry_is_told_in_words(self):
+        parcels, wells = self.layer(), self.layer("wells")
+        wells.startEditing()
+        self.draw("POINT EMPTY", wells)
+        self.turn(0.3)
+        self.assertIn("Draw one: a feature without a geometry has no place in the store. (wells)", self.said())
+        self.assertEqual(parcels.featureCount(), len(self.stored()))
 
 
 class Lost(QgisCase):

@@ -53,9 +53,9 @@ class Tour(Hands):
         self.note("drawn", [self.count(), self.parcels.isModified()])
         self.bars()
         self.draw(CROSSED)
-        self.note("refused", [self.count(), self.parcels.isModified(), len(self.plugin.teller._markers), self.bars()])
+        self.note("refused", [self.count(), self.parcels.isModified(), len(self.plugin.teller.markers), self.bars()])
         self.draw([CROSSED[0], CROSSED[2], CROSSED[1], CROSSED[3]])
-        self.note("mended", [self.count(), len(self.plugin.teller._markers)])
+        self.note("mended", [self.count(), len(self.plugin.teller.markers)])
 
     def undo(self):
         undo = iface.mainWindow().findChild(QAction, "mActionUndo")

@@ -85,6 +85,8 @@ def steps_of(geometry: QgsGeometry, grid: Grid, rounding: Rounding) -> str:
 
     ``rounding`` says whether its coordinates may be moved to the grid, and counts those that are.
     """
+    if geometry.isNull() or geometry.isEmpty():
+        raise OutOfReach("Take a geometry with points: there is none, or an empty one")
     flat: Any = geometry.constGet().clone()
     flat.dropZValue()
     flat.dropMValue()

@@ -71,6 +71,7 @@ class Editing:
         self.reshaped: set[int] = set()
         """QGIS' numbers of the features that were drawn, reshaped or deleted here, which was not sent yet."""
         self._index = 0
+        self._selected: list[int] = []
         self._seen: dict[int, _Seen] = {}
         self._news: dict[int, _News] = {}
         # Features that others have changed while a form of several ones was open, which may show what was there before: the
@@ -115,6 +116,17 @@ class Editing:
 
     def take_crs(self) -> None:
         self.crs = self.layer.crs()
+
+    def note_selection(self) -> None:
+        """Notes what is selected: QGIS forgets it where the provider has other features."""
+        self._selected = self.layer.selectedFeatureIds()
+
+    def select_again(self) -> None:
+        """Selects what was selected, of what is there still."""
+        added = self.layer.editBuffer().addedFeatures() if self.layer.isEditable() else {}
+        there = [fid for fid in self._selected if fid in added or self.provider.mirror.has(fid)]
+        if there and not self.layer.selectedFeatureCount():
+            self.layer.selectByIds(there)
 
     def reshape(self, fid: int, *_: object) -> None:
         """Notes that a feature was drawn, reshaped or deleted."""

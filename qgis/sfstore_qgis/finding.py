@@ -299,8 +299,6 @@ class FindingNear(Finding):
 
     def _steps_of(self, geometry: QgsGeometry, to_store: QgsCoordinateTransform, rounding: Rounding) -> str:
         """A geometry in steps of the grid. `OutOfReach` where it lies nowhere."""
-        if geometry.isNull() or geometry.isEmpty():
-            raise OutOfReach("Draw it first: it has no geometry, or an empty one")
         try:
             geometry.transform(to_store)
         except QgsCsException:

@@ -38,6 +38,8 @@ INDEX_AT_ONCE_MAX = 20_000
 class Mirror(QObject):
     """The features of one kind of a layer. QGIS' numbers of them stay as long as it lives."""
 
+    changing = pyqtSignal()
+    """Comes before `changed`, upon which QGIS selects nothing any more in each layer."""
     changed = pyqtSignal()
     columns_changed = pyqtSignal()
     given_up = pyqtSignal(str)
@@ -93,7 +95,7 @@ class Mirror(QObject):
         with self._agreeing():
             for kind in self._take(sorted(set(numbers))):
                 self.session.note_kind(self.name, kind)
-        self.changed.emit()
+        self._tell_changed()
 
     def load_anew(self) -> None:
         """Takes over columns and features as they are now, and what rules say of values."""
@@ -101,7 +103,7 @@ class Mirror(QObject):
             self._follow_columns()
             self.load()
         self.follow_rules()
-        self.changed.emit()
+        self._tell_changed()
 
     def follow_rules(self) -> None:
         """Has forms offer what rules say now of values."""
@@ -168,6 +170,14 @@ class Mirror(QObject):
         """Reads all anew where the fields are others than those of the columns."""
         with self._agreeing():
             self.fields.check()
+
+    def _tell_changed(self) -> None:
+        self.changing.emit()
+        self.changed.emit()
+
+    def has(self, fid: int) -> bool:
+        """Whether a feature is here, by QGIS' number."""
+        return self.fids.get(self.numbers.get(fid, -1)) == fid
 
     def begin_anew(self, why: str) -> None:
         """Reads all anew, and says why: what layers over it have not sent is lost."""

@@ -238,6 +238,7 @@ class Plugin:
         if not self._of(session) and session.path in self._sessions:
             self._sessions.discard(session.path)
             self.functions.leave(session.path)
+            self.teller.clear(session)
             session.close()
 
     def _follow_layer(self, editing: Editing) -> None:
@@ -262,6 +263,8 @@ class Plugin:
         self._connect(layer.attributeAdded, lambda *_: editing.touch_columns())
         self._connect(layer.attributeDeleted, lambda *_: editing.touch_columns())
         self._connect(layer.undoStack().indexChanged, partial(self._send_soon, editing))
+        self._connect_while_shown(editing, mirror.changing, editing.note_selection)
+        self._connect_while_shown(editing, mirror.changed, editing.select_again)
         mirror.changed.connect(layer.triggerRepaint)
         mirror.columns_changed.connect(partial(_update_fields, layer))
         self._connect_while_shown(editing, mirror.columns_changed, partial(self._check, editing))
@@ -407,7 +410,7 @@ class Plugin:
                 other.layer.updateFields()
                 other.layer.triggerRepaint()
         self.tried(editing.provider.mirror.settle_columns)
-        self.teller.clear()
+        self.teller.clear(editing.session)
         self._tell_moved(editing)
 
     def _tell_moved(self, editing: Editing) -> None:
@@ -479,7 +482,7 @@ class Plugin:
             if feature.isValid():
                 wkt = editing.provider.wkt(feature.geometry())
                 editing.session.line(f"check {editing.provider.source.layer} {wkt}")
-            self.teller.clear()
+            self.teller.clear(editing.session)
         except (NotSent, Refusal) as error:
             self.teller.refuse(f"{editing.layer.name()}, not sent yet", error, editing.session)
             return False
@@ -516,8 +519,9 @@ class Plugin:
         return next(iter(sessions.values()))
 
     def _opened_last(self) -> Session | None:
-        """The store that was opened last, where it is open still."""
-        return self._opened if self._opened is not None and self._opened.path in self._sessions else None
+        """The store that was opened last, where it is open still. Its file may have been opened anew since."""
+        is_open = self._opened is not None and Session.open.get(self._opened.path) is self._opened and self._opened.path in self._sessions
+        return self._opened if is_open else None
 
     def move(self, verb: str) -> None:
         """Undo or redo in the store."""
@@ -613,10 +617,10 @@ def _update_fields(layer: QgsVectorLayer) -> None:
 
 
 def _set_precision(editing: Editing) -> None:
-    """Has QGIS draw on the grid, where the grid is one that QGIS can have: a step from 0 on."""
+    """Has QGIS draw on the grid, where the grid is one that QGIS can have: a step from 0 on. A project may have that of before."""
     x, y, step, denominator = editing.session.grid.fractions
-    if x % step == 0 and y % step == 0:
-        editing.layer.geometryOptions().setGeometryPrecision(step / denominator)
+    is_from_0 = x % step == 0 and y % step == 0
+    editing.layer.geometryOptions().setGeometryPrecision(step / denominator if is_from_0 else 0.0)
 
 
 def _keep_identifiers(layer: QgsVectorLayer) -> None:

@@ -464,7 +464,11 @@ def _placed(path: str) -> Placing:
     fault = f"{known.fault}." if known.fault else ""
     if known.found is None:
         return Placing(fault, Grid("0", "0", "1"), QgsCoordinateReferenceSystem(), known.mark)
-    return Placing(fault, Grid(*known.found.grid), _system(known.found.crs), known.mark)
+    told, crs = known.found.crs, _system(known.found.crs)
+    if told is not None and not crs.isValid():
+        named = f"{told.authority}:{told.code}" if told.authority else "which has no code"
+        fault = f"Give its layers one by Set Layer CRS: QGIS does not know the reference system of {os.path.basename(path)}, {named}."
+    return Placing(fault, Grid(*known.found.grid), crs, known.mark)
 
 
 def _system(crs: sidecar.Crs | None) -> Any:

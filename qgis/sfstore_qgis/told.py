@@ -2,13 +2,14 @@
 
 from __future__ import annotations
 
+import contextlib
 import html
 import math
 from collections.abc import Callable, Iterable
 from functools import partial
 from typing import Any
 
-from qgis.core import Qgis, QgsCoordinateTransform, QgsGeometry, QgsPointXY, QgsProject, QgsRectangle
+from qgis.core import Qgis, QgsCoordinateTransform, QgsCsException, QgsGeometry, QgsPointXY, QgsProject, QgsRectangle
 from qgis.gui import QgsRubberBand, QgsVertexMarker
 from qgis.PyQt.QtCore import QEvent, QObject
 from qgis.PyQt.QtGui import QColor
@@ -93,9 +94,13 @@ class Teller:
     def __init__(self, iface: Any, select: Callable[[Session, list[Breaking]], object]) -> None:
         self._iface = iface
         self._select = select
-        self._markers: list[Any] = []
-        # What was said of the last refusal, until something is done that is not refused.
-        self._refusal: Any = None
+        # What was said of the last refusal of each store, and its marks, until something is done there that is not refused.
+        self._refusals: dict[str, tuple[Any, list[Any]]] = {}
+
+    @property
+    def markers(self) -> list[Any]:
+        """What is marked on the map."""
+        return [marker for _, markers in self._refusals.values() for marker in markers]
 
     def tell(self, text: str, level: Any = Qgis.Info) -> Any:
         """Says something for some seconds; what is critical until it is closed."""
@@ -104,26 +109,26 @@ class Teller:
 
     def refuse(self, layer: str, error: Exception, session: Session) -> None:
         """Says why an edit was not taken, shows what was refused, and marks the place."""
-        self.clear()
+        self.clear(session)
         text = words_of(error, session.grid, layer)
         refused = geometry_of(error, session.grid)
         breaking = _breaking_geometries(error, session.grid)
         if breaking:
-            self._refusal = self._tell_with_button(text, partial(self._visit, session, breaking_of(error), breaking))
+            item = self._tell_with_button(text, partial(self._visit, session, breaking_of(error), breaking))
         else:
-            self._refusal = self.tell(text, Qgis.Critical)
-        for geometry in [*breaking, *([] if refused is None else [refused])]:
-            self._show(geometry, session.crs)
-        self._mark(points_of(error, session.grid), session.crs)
+            item = self.tell(text, Qgis.Critical)
+        shown = [self._shown(geometry, session.crs) for geometry in [*breaking, *([] if refused is None else [refused])]]
+        self._refusals[session.path] = item, [*shown, *self._marks(points_of(error, session.grid), session.crs)]
 
-    def clear(self) -> None:
-        """Takes the last refusal away, and its marks."""
-        bar, refusal, self._refusal = self._iface.messageBar(), self._refusal, None
-        if refusal is not None and refusal in bar.items():
-            bar.popWidget(refusal)
-        for marker in self._markers:
-            self._iface.mapCanvas().scene().removeItem(marker)
-        self._markers.clear()
+    def clear(self, session: Session | None = None) -> None:
+        """Takes the last refusal of a store away, or those of all, with the marks: what another store has refused is refused still."""
+        bar = self._iface.messageBar()
+        for path in list(self._refusals) if session is None else [session.path]:
+            item, markers = self._refusals.pop(path, (None, []))
+            if item is not None and item in bar.items():
+                bar.popWidget(item)
+            for marker in markers:
+                self._iface.mapCanvas().scene().removeItem(marker)
 
     def _tell_with_button(self, text: str, act: Callable[[], object]) -> Any:
         """Says something that is critical, with a button that shows what it is about."""
@@ -147,27 +152,36 @@ class Teller:
         shown = self._transform(session.crs)
         box = QgsRectangle()
         for geometry in geometries:
-            box.combineExtentWith(shown.transformBoundingBox(geometry.boundingBox()))
-        canvas.zoomToFeatureExtent(box)
+            # Where the map's reference system has no such place it stays where it is.
+            with contextlib.suppress(QgsCsException):
+                box.combineExtentWith(shown.transformBoundingBox(geometry.boundingBox()))
+        if not box.isNull():
+            canvas.zoomToFeatureExtent(box)
         canvas.refresh()
 
     def _transform(self, crs: Any) -> QgsCoordinateTransform:
         """How the coordinates of a store become those of the map that is shown."""
         return QgsCoordinateTransform(crs, self._iface.mapCanvas().mapSettings().destinationCrs(), QgsProject.instance())
 
-    def _show(self, geometry: QgsGeometry, crs: Any) -> None:
+    def _shown(self, geometry: QgsGeometry, crs: Any) -> Any:
+        """What shows a geometry on the map."""
         band = QgsRubberBand(self._iface.mapCanvas(), geometry.type())
         band.setToGeometry(geometry, crs)
         band.setStrokeColor(_REFUSED)
         band.setFillColor(_REFUSED_FILL)
-        self._markers.append(band)
+        return band
 
-    def _mark(self, points: Iterable[tuple[float, float]], crs: Any) -> None:
-        canvas = self._iface.mapCanvas()
-        shown = self._transform(crs)
+    def _marks(self, points: Iterable[tuple[float, float]], crs: Any) -> list[Any]:
+        """Crosses at points, of those that the map can show."""
+        canvas, shown, found = self._iface.mapCanvas(), self._transform(crs), []
         for point in points:
+            try:
+                place = shown.transform(QgsPointXY(*point))
+            except QgsCsException:
+                continue
             marker = QgsVertexMarker(canvas)
-            marker.setCenter(shown.transform(QgsPointXY(*point)))
+            marker.setCenter(place)
             marker.setIconSize(_MARKER_PIXELS)
             marker.setPenWidth(_PEN_PIXELS)
-            self._markers.append(marker)
+            found.append(marker)
+        return found

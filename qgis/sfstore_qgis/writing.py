@@ -95,7 +95,7 @@ def added_numbers(lines: Sequence[Line], answers: Sequence[str]) -> list[tuple[i
 
 def wkt_of(geometry: QgsGeometry, layer: Layer, rounding: Rounding) -> str:
     """The text of a geometry in steps of the grid: each coordinate is moved to the nearest one."""
-    if geometry.isNull():
+    if geometry.isNull() or geometry.isEmpty():
         raise NotSent("Draw one: a feature without a geometry has no place in the store")
     try:
         shape = read_wkb(bytes(_fitted(geometry, layer.kind).asWkb()))
