@@ -2452,6 +2452,30 @@ class TwoStores(QgisCase):
         # What the other one has refused is marked still.
         self.assertEqual(len(self.plugin.teller.markers), 2)
 
+    def test_a_form_of_one_is_no_form_of_the_other(self):
+        """Both have a column of this name: texts the one, and numbers the other."""
+        Session.of(str(self.east)).line("column add fields number text")
+        self.turn(0.3)
+        QgsGui.editorWidgetRegistry().initEditors()
+        parcels = self.layer()
+        for layer in (parcels, self.fields):
+            layer.startEditing()
+        form = QgsAttributeForm(self.fields, self.feature(1, self.fields), QgsAttributeEditorContext())
+        form.setMode(QgsAttributeEditorContext.SingleEditMode)
+        form.show()
+        self.turn()
+        [line] = {line for each in form.findChildren(QWidget, "number") for line in (each, *each.findChildren(QLineEdit)) if isinstance(line, QLineEdit) and line.isVisible()}
+        line.setFocus()
+        line.setText("12a")
+        self.turn()
+        self.said()
+        self.set(1, "number", NULL)
+        self.turn(0.3)
+        form.close()
+        self.turn()
+        self.assertNotIn("can't read", " ".join(self.said()))
+        self.assertNotIn("number=", self.stored()[1])
+
     def test_each_is_drawn_on_its_own_grid(self):
         precision = [layer.geometryOptions().geometryPrecision() for layer in (self.layer(), self.fields)]
         # QGIS can have grids from 0 on.
@@ -2582,6 +2606,30 @@ class Lost(QgisCase):
         self.assertIn("201 POLYGON ((0 9000, 9 9000, 9 9009, 0 9000)) owner='there'", self.stored()[201])
         self.settle()
         self.assert_alike()
+
+    def test_a_form_of_before_changes_no_other_feature(self):
+        """Another map came in the store's place meanwhile, and QGIS' numbers of features are others."""
+        parcels = self.layer()
+        self.bens(self.ben(), "delete parcels 1")
+        QgsGui.editorWidgetRegistry().initEditors()
+        form = QgsAttributeForm(parcels, self.feature(2), QgsAttributeEditorContext())
+        form.show()
+        self.place(self.path, grid=["500000", "5600000", "0.01"])
+        self.server().kill()
+        self.server().wait()
+        self.wait_for(lambda: not self.session.is_connected)
+        self.wait_for(lambda: self.session.is_connected)
+        self.turn(0.3)
+        before = self.stored()
+        parcels.startEditing()
+        form.setMode(QgsAttributeEditorContext.SingleEditMode)
+        form.changeAttribute("owner", "Ann's own")
+        self.turn()
+        self.assertTrue(form.save())
+        self.assertFalse(parcels.commitChanges())
+        form.close()
+        parcels.rollBack()
+        self.assertEqual(self.stored(), before)
 
     def test_a_side_car_that_is_changed_under_the_server(self):
         """What was drawn by the old grid is not sent, and the layers lie by the new one."""

@@ -153,7 +153,7 @@ class Editing:
         column = next(iter(columns_of(self.layer.fields())[at : at + 1]), None)
         if column is not None and column.name != IDENTIFIER:
             self._unread_texts.pop((fid, column.name), None)
-            text = unread_text(column) if is_none(found) else ""
+            text = unread_text(column, self.provider.mirror.mark) if is_none(found) else ""
             if text:
                 self._unread_texts[fid, column.name] = text
 
@@ -165,8 +165,8 @@ class Editing:
 
     def unread_at(self, line: Any) -> str:
         """What is said of a field of one line that is left, where it has a text of which QGIS makes no value; else nothing."""
-        columns = columns_of(self.layer.fields()) if self.layer.isEditable() else []
-        found = ((column.name, unread_in(line, column)) for column in columns if column is not None and column.name != IDENTIFIER)
+        columns, mark = columns_of(self.layer.fields()) if self.layer.isEditable() else [], self.provider.mirror.mark
+        found = ((column.name, unread_in(line, column, mark)) for column in columns if column is not None and column.name != IDENTIFIER)
         return next((unread_words(name, text) for name, text in found if text), "")
 
     def _check_read(self) -> None:
@@ -182,7 +182,7 @@ class Editing:
         news = self._news.get(number)
         if news is not None and time.monotonic() < news.at + UNSEEN_SECONDS:
             return _Seen(news.before, ())
-        if any(not self._is_as_stored(number, shown) for shown in shown_in_forms(fid, number)):
+        if any(not self._is_as_stored(number, shown) for shown in shown_in_forms(fid, self.provider.mirror.mark)):
             return _Seen(0, ())
         if self._unread and not is_form_of_several_open():
             self._unread.clear()

@@ -16,7 +16,7 @@ from qgis.PyQt.QtWidgets import QApplication, QLineEdit
 
 from sfstore.results import Column
 
-from .fields import IDENTIFIER
+from .fields import mark_of
 from .values import is_read
 
 __all__ = ["is_form_of_several_open", "shown_in_forms", "unread_in", "unread_text"]
@@ -59,14 +59,15 @@ _FORM = "QgsAttributeForm"
 _known = _Known()
 
 
-def shown_in_forms(fid: int, number: int) -> Iterator[QgsFeature]:
-    """A feature of these numbers, QGIS' and the store's, as each open form has it.
+def shown_in_forms(fid: int, mark: str) -> Iterator[QgsFeature]:
+    """What each open form shows as the feature with a number of QGIS', of those that are from where a mark says.
 
-    It may be that of another layer. Which one a form is of can't be asked: it may be gone, and QGIS would end.
+    It may be another feature of the store, where QGIS' numbers have become others since. Which layer a form is of can't be
+    asked: it may be gone, and QGIS would end.
     """
     for form in _known.forms():
         shown = form.feature()
-        if shown.id() == fid and shown.fields().indexOf(IDENTIFIER) >= 0 and shown.attribute(IDENTIFIER) == number:
+        if shown.id() == fid and mark_of(shown.fields()) == mark:
             yield shown
 
 
@@ -75,24 +76,31 @@ def is_form_of_several_open() -> bool:
     return any(form.mode() == QgsAttributeEditorContext.MultiEditMode for form in _known.forms())
 
 
-def unread_text(column: Column) -> str:
-    """What stands in an open field of a column and is none of its values, so that QGIS has none there; empty where nothing does."""
-    return next(filter(None, (unread_in(line, column) for line in _known.lines())), "")
+def unread_text(column: Column, mark: str) -> str:
+    """What stands in an open field of a column and is none of its values, so that QGIS has none there; empty where nothing does.
+
+    ``mark`` says of which layer of which store the column is: others may have one of its name.
+    """
+    return next(filter(None, (unread_in(line, column, mark) for line in _known.lines())), "")
 
 
-def unread_in(line: Any, column: Column) -> str:
+def unread_in(line: Any, column: Column, mark: str) -> str:
     """The same of one field of one line."""
     text = str(line.text())
     is_unread = text.strip() and text != QgsApplication.nullRepresentation() and not is_read(text, column.type)
-    return text if is_unread and _is_field_of(line, column.name) else ""
+    return text if is_unread and _is_field_of(line, column.name, mark) else ""
 
 
-def _is_field_of(line: Any, name: str) -> bool:
+def _is_field_of(line: Any, name: str, mark: str) -> bool:
     """Whether a field of one line is that of a column in a form, or in a table, which has one open at a time."""
-    widget = line
-    while widget is not None and widget.objectName() != name:
-        if widget.inherits("QAbstractItemView"):
+    widget, is_named = line, False
+    while widget is not None:
+        if widget.inherits(_FORM):
+            # That of several features has none.
+            return is_named and mark_of(sip.cast(widget, QgsAttributeForm).feature().fields()) in ("", mark)
+        if widget.inherits("QAbstractItemView") and not is_named:
             at = widget.currentIndex().column()
             return at >= 0 and bool(widget.model().headerData(at, Qt.Horizontal) == name)
+        is_named = is_named or widget.objectName() == name
         widget = widget.parent()
-    return widget is not None
+    return is_named
