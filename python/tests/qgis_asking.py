@@ -630,6 +630,18 @@ class Algorithms(Toolbox):
         self.assertEqual(results, {"COUNT": 1})
         self.assertIn("1 more are of a kind that this layer does not show, or have come just now.", self.feedback.textLog())
 
+    def test_of_a_layer_of_any_kind_those_that_are_shown_are_the_nearest(self):
+        self.session.line("layer add map any")
+        for wkt in ("LINESTRING (0 0, 9 9)", "LINESTRING (0 1, 9 9)", "LINESTRING (0 2, 9 9)", "POINT (0 30)", "POINT (0 40)"):
+            self.session.line(f"add map {wkt}")
+        self.plugin.open(str(self.path))
+        points = self.layer("map (point)")
+        results = self.results("nearest", LAYER=points.id(), POINT="500000,5600000", NUMBER=1, OUTPUT="TEMPORARY_OUTPUT")
+        self.assertEqual([row[1:] for row in self.rows(results)[1]], [(4, 3.0, NULL)])
+        for text, found in (("nearest('map (point)', 2,", [4, 5]), ("nearest('map (point)', 9,", [4, 5]), ("near('map (point)', 3,", [4]), ("nearest('map (linestring)', 1,", [1])):
+            asked = QgsExpression(f"sfstore_{text} make_point(500000, 5600000))")
+            self.assertEqual(asked.evaluate(), found, asked.evalErrorString())
+
     def test_what_can_not_be_asked_is_told_in_words(self):
         parcels, pipes = self.layer(), self.layer("pipes")
         other = QgsVectorLayer("Polygon?crs=EPSG:25832", "other", "memory")

@@ -2,7 +2,7 @@
 
 from __future__ import annotations
 
-from collections.abc import Iterator, Sequence
+from collections.abc import Container, Iterator, Sequence
 from contextlib import contextmanager
 from decimal import Decimal
 from typing import Any
@@ -13,14 +13,15 @@ from sfstore import spelling
 from sfstore.editor import Editor
 from sfstore.exchange.grid import Grid, OffGrid, Outside, Rounding
 from sfstore.geometry import NotTaken, read_wkb, write_wkt
+from sfstore.language import IDENTIFIERS_MAX
 from sfstore.mapunits import MapUnits
-from sfstore.results import Answer, Refused
+from sfstore.results import Answer, Near, Refused
 from sfstore.web.client import Client
 
 from .session import Refusal
 from .writing import NotSent
 
-__all__ = ["Asking", "OutOfReach", "asked", "reach_of", "steps_of"]
+__all__ = ["Asking", "OutOfReach", "asked", "nearest_of", "reach_of", "steps_of"]
 
 # A call of a line names a page. Questions are nobody's edits.
 _PAGE = "qgis questions"
@@ -78,6 +79,19 @@ def asked(path: str, name: str, seconds: float, grid: str) -> Iterator[Editor]:
         yield Editor(asking, "")
     finally:
         asking.close()
+
+
+def nearest_of(store: Editor, layer: str, count: int, wkt: str, shown: Container[int] | None) -> list[Near]:
+    """The nearest features, of those that a layer of QGIS shows, where it shows one kind of several; None where it shows all."""
+    asked = count
+    while True:
+        found = store.nearest(layer, asked, wkt)
+        those = [near for near in found if shown is None or near.feature_id in shown][:count]
+        if len(those) == count or len(found) < asked:
+            return those
+        if asked == IDENTIFIERS_MAX:
+            raise NotSent(f"Ask for fewer: of the nearest {asked:,} features of {layer}, {len(those):,} are of this kind")
+        asked = min(2 * asked, IDENTIFIERS_MAX)
 
 
 def steps_of(geometry: QgsGeometry, grid: Grid, rounding: Rounding) -> str:

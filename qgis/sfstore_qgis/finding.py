@@ -83,6 +83,8 @@ class Place(NamedTuple):
     """The other way round."""
     source: Any
     """Its features, as they were then."""
+    is_part: bool
+    """Whether it shows one kind of several that the layer of the store has."""
 
     @property
     def grid(self) -> Grid:
@@ -155,7 +157,7 @@ class Finding(QgsProcessingAlgorithm):
         provider: Provider = layer.dataProvider()
         session, mirror = provider.session, provider.mirror
         asked_in = layer, session.path, provider.source.layer, session.placing, layer.crs()
-        return Place(*asked_in, QgsFields(provider.fields()), provider.wkbType(), dict(mirror.fids), dict(mirror.numbers), provider.featureSource())
+        return Place(*asked_in, QgsFields(provider.fields()), provider.wkbType(), dict(mirror.fids), dict(mirror.numbers), provider.featureSource(), provider.shown is not None)
 
     # What QGIS calls.
 

@@ -32,7 +32,7 @@ from sfstore.exchange.grid import Grid, Rounding
 from sfstore.language import IDENTIFIER_MAX, IDENTIFIERS_MAX
 from sfstore.web.client import CallFailed, ServerGone
 
-from .asking import reach_of, steps_of
+from .asking import nearest_of, reach_of, steps_of
 from .editing import Editing
 from .fields import IDENTIFIER, mark_of
 from .measures import Measure, Measures
@@ -271,7 +271,8 @@ class Functions(QObject):
         placing, measures = editing.session.placing, self._of(editing.session)
         wkt = self._steps(geometry, editing, placing.grid, asked)
         reach = reach_of(_number(distance, "distance"), placing.units)
-        return measures.ask(lambda store: store.near(editing.provider.source.layer, reach, wkt), placing)
+        found, shown = measures.ask(lambda store: store.near(editing.provider.source.layer, reach, wkt), placing), editing.provider.shown
+        return found if shown is None else [number for number in found if number in shown]
 
     def _nearest(self, values: _Values, asked: _Asked) -> list[int]:
         name, count, geometry = values
@@ -279,7 +280,8 @@ class Functions(QObject):
         placing, measures = editing.session.placing, self._of(editing.session)
         wkt = self._steps(geometry, editing, placing.grid, asked)
         wanted = _whole(count, "count", 1, IDENTIFIERS_MAX)
-        found = measures.ask(lambda store: store.nearest(editing.provider.source.layer, wanted, wkt), placing)
+        provider = editing.provider
+        found = measures.ask(lambda store: nearest_of(store, provider.source.layer, wanted, wkt, provider.shown), placing)
         return [each.feature_id for each in found]
 
     def _on_grid(self, values: _Values, asked: _Asked) -> QgsGeometry:

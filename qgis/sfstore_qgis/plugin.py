@@ -149,7 +149,7 @@ class Plugin:
 
     def choose_layer(self) -> None:
         window = self._iface.mainWindow()
-        name, is_given = QInputDialog.getText(window, "Add a layer", "Name", QLineEdit.Normal, "")
+        name, is_given = QInputDialog.getText(window, "Add a layer", f"Name, in {_file_of(self._for_new_layer())}", QLineEdit.Normal, "")
         if is_given:
             kind, is_given = QInputDialog.getItem(window, "Add a layer", "Kind", KINDS, 0, False)
         if is_given:
@@ -157,9 +157,12 @@ class Plugin:
 
     def add_layer(self, name: str, kind: str) -> None:
         """Adds a layer to the store of the active layer, else to the one that was opened last: it may have no layer yet."""
-        session = (None if self.active() else self._opened_last()) or self._session()
+        session = self._for_new_layer()
         session.line(f"layer add {checked_name(name)} {kind}")
         self.open(session.path)
+
+    def _for_new_layer(self) -> Session:
+        return (None if self.active() else self._opened_last()) or self._session()
 
     def drop_chosen(self) -> None:
         editing = self.editings[self._iface.activeLayer().id()] if self.active() else None
@@ -201,8 +204,9 @@ class Plugin:
 
     def link(self, name: str) -> None:
         """Puts a link into the clipboard that lets somebody edit in the browser."""
-        QApplication.clipboard().setText(self._session().call("link", name=name)["address"])
-        self.teller.tell(f"A link for {name} is in the clipboard. It lets one person in, once, within ten minutes.")
+        session = self._session()
+        QApplication.clipboard().setText(session.call("link", name=name)["address"])
+        self.teller.tell(f"A link to {_file_of(session)} for {name} is in the clipboard. It lets one person in, once, within ten minutes.")
 
     def choose_name(self) -> None:
         window = self._iface.mainWindow()
@@ -540,8 +544,7 @@ class Plugin:
 
     def choose_save(self) -> None:
         """Asks, and saves the store: QGIS has actions of that word that end no history."""
-        name = os.path.basename(self._session().path)
-        words = f"Save {name} for all? The history begins anew: nobody can undo what was done before."
+        words = f"Save {_file_of(self._session())} for all? The history begins anew: nobody can undo what was done before."
         if QMessageBox.question(self._iface.mainWindow(), "Save the store", words) == QMessageBox.Yes:
             self.save()
 
@@ -583,7 +586,7 @@ class Plugin:
         self.teller.tell(f"Open the store again to show it: {layer} has a {kind} now.", Qgis.Warning)
 
     def _lost(self, session: Session) -> None:
-        self.teller.tell("Wait, or draw on: the store's server does not answer, and is tried again. Your edits stay.", Qgis.Warning)
+        self.teller.tell(f"Wait, or draw on: the server of {_file_of(session)} does not answer, and is tried again. Your edits stay.", Qgis.Warning)
 
     def _renewed(self, session: Session) -> None:
         in_doubt = []
@@ -592,7 +595,7 @@ class Plugin:
             if editing.is_in_doubt and editing.layer.isModified():
                 in_doubt.append(editing.layer.name())
         doubt = f"Look at {', '.join(in_doubt)}: save your last edit, or give it up if it is there. " if in_doubt else ""
-        self.teller.tell(f"{doubt}The store's server answers again.", Qgis.Warning if in_doubt else Qgis.Info)
+        self.teller.tell(f"{doubt}The server of {_file_of(session)} answers again.", Qgis.Warning if in_doubt else Qgis.Info)
 
 
 @contextlib.contextmanager
@@ -603,6 +606,11 @@ def _wait_cursor() -> Iterator[None]:
         yield
     finally:
         QgsApplication.restoreOverrideCursor()
+
+
+def _file_of(session: Session) -> str:
+    """The name of a store's file: several may be open."""
+    return os.path.basename(session.path)
 
 
 def _title(source: provider.Source) -> str:

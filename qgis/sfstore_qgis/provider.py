@@ -7,7 +7,7 @@ of QGIS, and the provider hands out that one's feature source. So threads which 
 from __future__ import annotations
 
 import traceback
-from collections.abc import Callable, Iterable, Mapping, Sequence
+from collections.abc import Callable, Container, Iterable, Mapping, Sequence
 from typing import Any, NamedTuple
 
 from qgis.core import (
@@ -95,6 +95,12 @@ class Provider(QgsVectorDataProvider):
         self.dataChanged.emit()
 
     # Reading: all of it is C++, over the mirror.
+
+    @property
+    def shown(self) -> Container[int] | None:
+        """The store's numbers of its features, where it shows one kind of several that the layer of the store has; else None."""
+        found: Container[int] | None = self.mirror.fids if self.source.kind else None
+        return found
 
     def isValid(self) -> bool:
         return self.mirror is not None

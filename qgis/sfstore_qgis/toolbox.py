@@ -20,7 +20,7 @@ from qgis.PyQt.QtGui import QIcon
 from sfstore.editor import Editor
 from sfstore.language import IDENTIFIER_MAX, IDENTIFIERS_MAX, PREDICATES
 
-from .asking import reach_of
+from .asking import nearest_of, reach_of
 from .finding import VECTOR, Finding, FindingNear, Found, icon
 from .session import LayerRefused
 from .writing import NotSent
@@ -75,9 +75,10 @@ class Nearest(FindingNear):
 
     def found(self, store: Editor, parameters: Any, context: Any, feedback: Any) -> list[Found]:
         count, units = self.parameterAsInt(parameters, self.NUMBER, context), self.place.units
+        shown = self.place.fids if self.place.is_part else None
         return [
             Found(near.feature_id, (float(units.length(near.steps)), given.feature))
-            for given, nearest in self.answers(parameters, context, feedback, lambda wkt: store.nearest(self.place.name, count, wkt))
+            for given, nearest in self.answers(parameters, context, feedback, lambda wkt: nearest_of(store, self.place.name, count, wkt, shown))
             for near in nearest
         ]
 
