@@ -716,6 +716,17 @@ class Algorithms(Toolbox):
             words = "Distances and coordinates of town.sfs are meters of EPSG:25832: its grid has steps of 0.1, from 500000 5600000 on."
             self.assertIn(words, self.feedback.textLog())
 
+    def test_what_is_found_is_selected_though_qgis_numbers_it_anew_meanwhile(self):
+        wells = self.layer("wells")
+        self.bens(self.ben(), "delete wells 1")
+        asked = {"LAYER": wells.id(), "POINT": "500105,5600005", "DISTANCE": 1}
+        algorithm = self.begun("near", **asked)
+        self.assertTrue(algorithm.prepare(asked, self.context, self.feedback))
+        self.assertEqual(algorithm.runPrepared(asked, self.context, self.feedback), {"COUNT": 1})
+        self.plugin.editings[wells.id()].provider.mirror.begin_anew("a test wants it so")
+        algorithm.postProcess(self.context, self.feedback)
+        self.assertEqual(self.selected("wells"), [2])
+
     def test_a_question_by_another_grid_is_not_answered(self):
         """Another program gives the store a side-car with another grid, of which this QGIS has not heard."""
         wells = self.layer("wells")

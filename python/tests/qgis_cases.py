@@ -2607,6 +2607,19 @@ class Lost(QgisCase):
         self.settle()
         self.assert_alike()
 
+    def test_what_is_selected_is_no_other_feature_behind_another_grid(self):
+        """QGIS' numbers of features become others: who deletes what is selected would delete others."""
+        parcels = self.layer()
+        self.bens(self.ben(), "delete parcels 1")
+        parcels.selectByIds([self.fid(2)])
+        self.place(self.path, grid=["500000", "5600000", "0.01"])
+        self.server().kill()
+        self.server().wait()
+        self.wait_for(lambda: not self.session.is_connected)
+        self.wait_for(lambda: self.session.is_connected)
+        self.turn(0.3)
+        self.assertEqual([feature["_id"] for feature in parcels.selectedFeatures() if feature["_id"] != 2], [])
+
     def test_a_form_of_before_changes_no_other_feature(self):
         """Another map came in the store's place meanwhile, and QGIS' numbers of features are others."""
         parcels = self.layer()

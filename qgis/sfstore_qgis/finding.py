@@ -190,7 +190,7 @@ class Finding(QgsProcessingAlgorithm):
             self.prepare_asked(parameters, context)
         self._user = Session.user()
         self._is_selecting = self.parameterAsBool(parameters, self.SELECT, context)
-        self._selected: list[int] = []
+        self._found: list[int] = []
         return True
 
     def processAlgorithm(self, parameters: Any, context: Any, feedback: Any) -> dict[str, Any]:
@@ -204,12 +204,15 @@ class Finding(QgsProcessingAlgorithm):
         shown = [each for each in found if each.number in self.place.fids]
         if len(shown) < len(found):
             feedback.pushWarning(f"{len(found) - len(shown)} more are of a kind that this layer does not show, or have come just now.")
-        self._selected = [self.place.fids[each.number] for each in shown]
+        self._found = [each.number for each in shown]
         return {self.COUNT: len(shown), **self._written(shown, parameters, context)}
 
     def postProcessAlgorithm(self, context: Any, feedback: Any) -> dict[str, Any]:
-        if self._is_selecting and not sip.isdeleted(self.place.layer):
-            self.place.layer.selectByIds(self._selected)
+        layer = self.place.layer
+        if self._is_selecting and not sip.isdeleted(layer):
+            # QGIS may have numbered them anew since.
+            fids = layer.dataProvider().mirror.fids
+            layer.selectByIds([fids[number] for number in self._found if number in fids])
         return {}
 
     def _written(self, found: Sequence[Found], parameters: Any, context: Any) -> dict[str, Any]:
@@ -222,7 +225,8 @@ class Finding(QgsProcessingAlgorithm):
         sink, name = self.parameterAsSink(parameters, self.OUTPUT, context, fields, place.kind, place.crs)
         if sink is None:
             raise QgsProcessingException(self.invalidSinkError(parameters, self.OUTPUT))
-        there = {feature.id(): feature for feature in place.source.getFeatures(QgsFeatureRequest().setFilterFids(self._selected))}
+        wanted = QgsFeatureRequest().setFilterFids([place.fids[number] for number, _ in found])
+        there = {feature.id(): feature for feature in place.source.getFeatures(wanted)}
         for number, values in found:
             if not sink.addFeature(_with_values(there[place.fids[number]], values), QgsFeatureSink.FastInsert):
                 raise QgsProcessingException(self.writeFeatureError(sink, parameters, self.OUTPUT))

@@ -366,6 +366,8 @@ class Plugin:
         try:
             if layer.isEditable():
                 layer.rollBack()
+            # QGIS' numbers may be those of other features from now on.
+            layer.removeSelection()
             layer.updateFields()
         finally:
             editing.is_sending = False

@@ -119,7 +119,8 @@ class Reach(Finding):
         words = list(filter(None, re.split("[ ,;]+", self.parameterAsString(parameters, self.IDS, context))))
         if not all(word.isdecimal() and int(word) <= IDENTIFIER_MAX for word in words):
             raise NotSent(f"Take whole numbers up to {IDENTIFIER_MAX:,}, with commas between them, for where it begins")
-        numbers = list(map(int, words)) or [self.place.numbers[fid] for fid in self.place.layer.selectedFeatureIds()]
+        selected = self.place.layer.selectedFeatureIds()
+        numbers = list(map(int, words)) or [self.place.numbers[fid] for fid in selected if fid in self.place.numbers]
         if not 1 <= len(numbers) <= IDENTIFIERS_MAX:
             raise NotSent(f"Select from 1 to {IDENTIFIERS_MAX:,} features where it begins: {len(numbers):,} are selected")
         return numbers
