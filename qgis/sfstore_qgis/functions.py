@@ -311,12 +311,13 @@ class Functions(QObject):
         shown = self._editings.get(asked.layer)
         if shown is not None and not feature.isValid():
             raise LayerRefused("Ask of a feature: there is none here.")
-        those = self._over(asked.mark)
+        mark = mark_of(feature.fields())
+        if shown is not None and mark == shown.provider.mirror.mark and not asked.is_within:
+            return _sent(_Of(shown, _number_of(feature, shown)))
+        those = self._over(mark)
         if not those:
             raise _unknown()
         of = _Of(those[0], _number_of(feature, those[0]))
-        if shown in those and not asked.is_within:
-            return _sent(of._replace(editing=shown))
         for each in those:
             _sent(of._replace(editing=each))
         # It may be of a copy, which says of itself what its original does.
