@@ -3,10 +3,10 @@
 Labels, symbols and algorithms ask them in threads of their own, so nothing here asks a layer of QGIS: all is known by
 the plugin's editings, the mirrors and the store.
 
-QGIS says of which layer an expression is, and in an aggregate or an overlay that is not the one of the feature. So a
-feature is taken for one of the store by what it brings along itself, and where that may be a copy's, by its geometry.
-There QGIS leaves out what has an error, too. So an aggregate that can't be answered is ended before it begins where
-that is known, and else it has no number; and the person is told.
+QGIS says of which layer an expression is, and in an aggregate that is not the one of the feature. So a feature is taken
+for one of the store by what it brings along itself, and where that may be a copy's, by its geometry. There QGIS leaves out
+what has an error, too. So an aggregate that can't be answered is ended before it begins where that is known. Else a sum
+has no number; and the person is told.
 """
 
 from __future__ import annotations
@@ -45,6 +45,7 @@ from .writing import NotSent, is_none
 __all__ = ["PAGES", "Functions"]
 
 _GROUP = "sfstore"
+_FAULTS = (CallFailed, LayerRefused, NotSent, Refusal, ServerGone)
 _Values = Sequence[Any]
 _Parameter = QgsExpressionFunction.Parameter
 
@@ -179,9 +180,6 @@ class _Function(QgsExpressionFunction):
 
     def referencedColumns(self, node: Any) -> set[str]:
         return {IDENTIFIER} if self._is_own else set()
-
-
-_FAULTS = (CallFailed, LayerRefused, NotSent, Refusal, ServerGone)
 
 
 class Functions(QObject):
