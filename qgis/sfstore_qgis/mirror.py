@@ -4,6 +4,8 @@ from __future__ import annotations
 
 import contextlib
 import gc
+import hashlib
+import os
 from collections.abc import Callable, Iterable, Iterator, Mapping, Sequence
 from typing import TYPE_CHECKING, Any
 
@@ -31,6 +33,8 @@ WKB_NAMES = {
 }
 """QGIS' names of the kinds of geometries."""
 
+_MARK_DIGITS = 12
+
 # From so many features on the index, which takes its time, is made when there is some.
 INDEX_AT_ONCE_MAX = 20_000
 
@@ -49,8 +53,10 @@ class Mirror(QObject):
         """A mirror that has all; ``kind`` is that of the geometries which it shows."""
         super().__init__()
         self.session, self.name, self.kind = session, name, kind
-        self.mark = f"numbered by the store {session.path}, layer {name}, {kind}"
-        """What its features say of where they are from. Features of another mirror of this store do not say the same."""
+        # Whoever exports the layer may give that away: no folder stands in it.
+        folder = hashlib.sha256(os.fsencode(session.path)).hexdigest()[:_MARK_DIGITS]
+        self.mark = f"numbered by {os.path.basename(session.path)}, {folder}: {name}, {kind}"
+        """What its features say of where they are from. Those of another mirror, of this store or another one, say something else."""
         # Layers that are being edited, and whether they have steps that were not sent. Their buffers count fields by
         # places, so that none may go; and behind a step that counts a new one none may come.
         self.held: dict[str, Callable[[], bool]] = {}
