@@ -9,14 +9,28 @@ import subprocess  # nosec B404: the store's own program is started, without a s
 import tempfile
 from collections.abc import Callable, Iterator
 from pathlib import Path
-from typing import IO, BinaryIO
+from typing import IO, BinaryIO, NamedTuple
 
 from sfstore import files, journal, sidecar
 from sfstore.program import checked_path
 from sfstore.results import JournalError
 from sfstore.storefile import is_store
 
-__all__ = ["Kept"]
+__all__ = ["Kept", "OpenFile"]
+
+
+class OpenFile(NamedTuple):
+    """The file of a store, open to be read by somebody else, as it was when the store's program had read it."""
+
+    file: BinaryIO
+    size: int
+    written: int
+    """When it was written last, in nanoseconds."""
+
+    def is_as_seen(self) -> bool:
+        """Whether nobody has written to the file since, be another one put in its place or not."""
+        found = os.fstat(self.file.fileno())
+        return (found.st_size, found.st_mtime_ns) == (self.size, self.written)
 
 
 class Kept:
@@ -118,7 +132,7 @@ class Kept:
 
         return read
 
-    def open_file(self) -> BinaryIO | None:
+    def open_file(self) -> OpenFile | None:
         """The file that the edits go on from, open; none where a store is new. `JournalError` where another one is there."""
         self.check()
         if not self._seen:
@@ -127,7 +141,8 @@ class Kept:
         if _state(file.fileno()) != self._seen:
             file.close()
             raise self._changed()
-        return file
+        _, _, size, written, _ = self._seen
+        return OpenFile(file, size, written)
 
     def copy(self, path: str, program: str) -> None:
         """Has a second program make another file of the store's file and the edits.

@@ -21,13 +21,14 @@ import os
 import warnings
 from collections.abc import Callable
 from types import TracebackType
-from typing import TYPE_CHECKING, BinaryIO, Literal, overload
+from typing import TYPE_CHECKING, Literal, overload
 
 from sfstore import sidecar
 from sfstore.editor import Editor
 from sfstore.extents import extent_of
 from sfstore.group import Added, Group, Which
 from sfstore.journaled import Journaled
+from sfstore.kept import OpenFile
 from sfstore.mapunits import MapUnits, NoPlace
 from sfstore.program import checked_path, started
 from sfstore.results import (
@@ -271,7 +272,7 @@ class Store(Editor):
         """
         return self._journaled().unsaved_lines
 
-    def _open_file(self) -> BinaryIO | None:
+    def _open_file(self) -> OpenFile | None:
         """The file that `unsaved_lines` go on from, open, be another one put in its place; none where a new store was not saved yet."""
         return self._journaled().open_file()
 

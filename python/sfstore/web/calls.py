@@ -167,7 +167,10 @@ class Calls:
         return {"editor": editor, "name": self._editors.name_of(editor)}
 
     def _map(self, editor: int, body: Body) -> Body:
-        """The layers with their columns, whose step is next, and how far the map reaches."""
+        """The layers with their columns, whose step is next, and how far the map reaches.
+
+        They are those of a version of a store, which ``content`` and ``store`` name.
+        """
 
         def question(store: Store) -> Body:
             rules = store.rules()
@@ -181,7 +184,8 @@ class Calls:
             ]
             grid = self._looks.grid
             told = {"grid": _told_grid(grid), "grid_mark": grid.mark, "grid_fault": grid.fault or None}
-            return {**told, "layers": layers, "extent": extent_of(store) if body.get("extent") else None}
+            shown = {"store": self._looks.number, "content": self._looks.version}
+            return {**told, **shown, "layers": layers, "extent": extent_of(store) if body.get("extent") else None}
 
         version, to_undo, to_redo = self._keeper.steps()
         steps = {"undo": self._step(to_undo), "redo": self._step(to_redo)}
@@ -280,7 +284,7 @@ class Calls:
             if words[0] in QUESTIONS:
                 answer = self._asked(editor, line, grid)
                 return _answered(_in_units(units, line, answer) if units else answer)
-            return self._edit(Asked(editor, page, line, seen, grid.mark))
+            return self._edit(Asked(editor, page, line, seen, grid.mark, _store(body)))
         except Refused as refused:
             return {"refused": self._refusal(refused, line if refused.member is None else refused.line)}
         except ValueError as error:
@@ -325,7 +329,7 @@ class Calls:
 
         The page says which version it has seen: who has changed since then what the tool changes was there before.
         """
-        seen = _number(body, "seen", 0, 2**53)
+        seen, over = _number(body, "seen", 0, 2**53), _store(body)
         lines: list[str] = []
         for _ in range(_DRAWINGS_MAX):
             grid = self._grid_for(body)
@@ -339,7 +343,7 @@ class Calls:
                 if question:
                     return {"question": question}
                 batch = batch_of(editor, _page(body), lines, [seen if feature_of(line) else None for line in lines])
-                done = self._changing(editor, lambda: self._keeper.carry_out_all(batch, drawn.version, grid.mark))
+                done = self._changing(editor, lambda: self._keeper.carry_out_all(batch, drawn.version, grid.mark, over))
                 answer = " ".join(["ok", *(answer[3:] for answer in done.answers if answer != "ok")])
                 return {"answer": answer, "changed": _changed(lines)}
             except Overtaken:
@@ -756,6 +760,11 @@ def _number(body: Body, name: str, least: int, most: int) -> int:
     if type(number) is not int or not least <= number <= most:
         raise BadCall(f"{name} has to be a whole number from {least} to {most}")
     return number
+
+
+def _store(body: Body) -> int | None:
+    """The number of the store that who calls has before them, where they say it."""
+    return None if body.get("store") is None else _number(body, "store", 0, 2**53)
 
 
 def _tiles(body: Body) -> dict[Tile, int]:

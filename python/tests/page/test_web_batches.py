@@ -190,6 +190,19 @@ class Whole(BatchCase):
         self.assertEqual(self.ann.answer("redo"), "ok")
         self.assertEqual([layer["name"] for layer in self.serving.call("/map")["layers"]], ["z"])
 
+    def test_of_a_store_without_layers_a_line_that_is_too_long_for_its_editor_alone_leaves_nothing_to_redo(self):
+        """By itself the line is as long as one may be. Its editor stands before it, and a mark of the batch behind it."""
+        for layer in ("p", "w"):
+            self.ann.answer(f"layer drop {layer}")
+        self.ann.line("save")
+        most = 4_194_304
+        for length in (most, most - 3, most - 5):
+            line = "add a POINT (1 1)"
+            told = self.refused(self.ann, "layer add a point", line + " " * (length - len(line)))
+            self.assertEqual(told, (33, 1))
+            self.assertEqual(self.ann.refused("redo")["name"], "NothingToRedo")
+        self.assertEqual(self.ann.line("layers")["rows"], [])
+
     def test_a_geometry_of_a_layer_that_the_batch_adds(self):
         self.assertEqual(self.done(self.ann, "layer add q polygon", f"add q {SQUARE}"), ["ok", "ok 1"])
         before = self.serving.call("/map")["layers"]
@@ -723,7 +736,7 @@ class Snapshots(TestCase):
     def snapshot(self):
         """A snapshot, whose file is closed with the test."""
         snapshot = self.keeper.snapshot()
-        self.addCleanup(snapshot.opened.close)
+        self.addCleanup(snapshot.opened.file.close)
         return snapshot
 
     def other(self):
@@ -753,6 +766,18 @@ class Snapshots(TestCase):
             real(store, *words, **named)
 
         with mock.patch.object(Store, "__init__", writing), self.assertRaisesRegex(Unavailable, "written by another program just now"):
+            _loaded(PROGRAM, snapshot)
+
+    def test_a_file_that_was_written_over_before_it_is_loaded_is_told(self):
+        """While the journal was read: what is loaded would be of two moments."""
+        snapshot = self.snapshot()
+        self.path.write_bytes(self.other().read_bytes())
+        with self.assertRaisesRegex(Unavailable, "written by another program just now"):
+            _loaded(PROGRAM, snapshot)
+
+    def test_edits_that_do_not_fit_the_file_are_told(self):
+        snapshot = self.snapshot()._replace(lines=["set p 99 number 1"])
+        with self.assertRaisesRegex(Unavailable, "written by another program just now"):
             _loaded(PROGRAM, snapshot)
 
     def begin(self):

@@ -25,6 +25,8 @@ export class FeatureMap {
     this.layers = [];
     this.origin = null;
     this.seen = null;
+    // What is another number once another store, or another grid, is behind the page: what was asked before shows nothing.
+    this.turn = 0;
     this.chosen = null;
     this.hits = new Map();
     this.styles = {};
@@ -44,6 +46,18 @@ export class FeatureMap {
       return Object.assign(known, layer, { style, tint });
     });
     this.#showLayers();
+  }
+
+  /** Has nothing drawn, as everything lies elsewhere. */
+  forget() {
+    this.turn += 1;
+    this.seen = null;
+    this.isStale = true;
+    for (const layer of this.layers) {
+      Object.assign(layer, { inside: 0, isCounted: false, features: new Map() });
+      layer.group.replaceChildren();
+    }
+    this.overview.forget();
   }
 
   /** Follows a layer to another name: whoever has turned it off does not see it. */
@@ -127,7 +141,12 @@ export class FeatureMap {
       const start = performance.now();
       const asked = { box: this.#box(), scale: this.view.scale, view: this.#viewed() };
       this.coming = asked;
+      const { turn } = this;
       const layers = await this.#window(asked.box).finally(() => (this.coming = null));
+      if (turn !== this.turn) {
+        this.wanted = true;
+        continue;
+      }
       this.#show(layers);
       this.seen = asked;
       this.onShown();
@@ -167,8 +186,10 @@ export class FeatureMap {
   }
 
   async #redrawSome(layer, ids) {
+    const { turn } = this;
     const { features } = await call("shapes", { layer: layer.name, ids });
-    if (layer.isCounted) return;
+    // Where nothing is drawn yet, the window that comes has them.
+    if (layer.isCounted || turn !== this.turn || !this.seen) return;
     for (const id of ids) this.#takeOut(layer, id);
     for (const [id, code, members] of features) {
       const [left, bottom, right, top] = boxOf(members);

@@ -43,6 +43,13 @@ export class Overview {
     return this.running;
   }
 
+  /** Shows nothing, until it is told again what to show. */
+  forget() {
+    this.layers = [];
+    this.tiles = new Map();
+    this.place();
+  }
+
   /** How many features of a layer a box has at least, as far as tiles tell it. */
   least(layer, [left, bottom, right, top]) {
     let most = 0;
@@ -86,27 +93,29 @@ export class Overview {
   async #ask(layer) {
     const level = this.#level();
     const shown = this.#shown(level);
+    const { tiles: kept } = this;
     let isWhole = true;
     for (let begin = 0; begin < shown.length; begin += ASKED_MAX) {
-      const tiles = shown.slice(begin, begin + ASKED_MAX).map(([x, y]) => [x, y, this.tiles.get(keyOf(layer, level, x, y))?.version ?? 0]);
+      const tiles = shown.slice(begin, begin + ASKED_MAX).map(([x, y]) => [x, y, kept.get(keyOf(layer, level, x, y))?.version ?? 0]);
       const answer = await call("pictures", { layer, level, tiles });
-      await Promise.all(answer.tiles.map((told) => this.#take(layer, level, told)));
+      await Promise.all(answer.tiles.map((told) => this.#take(kept, layer, level, told)));
       this.place();
       isWhole &&= answer.tiles.every((told) => told.whole);
     }
     return isWhole;
   }
 
-  async #take(layer, level, { x, y, count, version, png }) {
+  /** Keeps a tile among those of the store for which it was asked. */
+  async #take(tiles, layer, level, { x, y, count, version, png }) {
     const key = keyOf(layer, level, x, y);
-    const known = this.tiles.get(key);
+    const known = tiles.get(key);
     if (known?.version === version) return;
-    this.tiles.delete(key);
-    this.tiles.set(key, { layer, level, x, y, count, version, picture: png && (await createImageBitmap(blobOf(png))), tinted: null });
+    tiles.delete(key);
+    tiles.set(key, { layer, level, x, y, count, version, picture: png && (await createImageBitmap(blobOf(png))), tinted: null });
     // The oldest go, which nobody has asked for since.
-    for (const oldest of this.tiles.keys()) {
-      if (this.tiles.size <= KEPT_MAX) break;
-      this.tiles.delete(oldest);
+    for (const oldest of tiles.keys()) {
+      if (tiles.size <= KEPT_MAX) break;
+      tiles.delete(oldest);
     }
   }
 
