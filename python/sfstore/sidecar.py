@@ -179,7 +179,7 @@ def store_beside(path: str) -> str | None:
     if made:
         return os.path.join(folder, made[1])
     stores = (path[: -len(ending)] for ending in _BESIDE if name.endswith(ending) and name != ending)
-    return next(filter(_is_store, stores), None)
+    return next((store for store in stores if _is_store(store)), None)
 
 
 def _is_store(path: str) -> bool:

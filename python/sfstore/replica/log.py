@@ -420,18 +420,17 @@ class Writing(_Servers):
 
     def cut(self, key: str, until: float) -> int:
         """Puts a cut down, and gives its place."""
-        [(place,)] = self._patiently("SELECT sfstore.cut(%s)", (key,), until)
+        [(place,)] = self._patiently("SELECT sfstore.cut(%s)", (key,), until, _Waiting(self._tell))
         return int(place)
 
     def drop_before(self, place: int, replicas: int, age: str, until: float) -> int:
         """Drops all up to a cut of which so many replicas have the same file; how many entries those were."""
         words = "SELECT sfstore.drop_before(%s, %s, %s::interval)"
-        [(dropped,)] = self._patiently(words, (place, replicas, age), until)
+        [(dropped,)] = self._patiently(words, (place, replicas, age), until, _Waiting(self._tell))
         return int(dropped)
 
-    def _patiently(self, words: str, values: Sequence[object], until: float, waiting: _Waiting | None = None) -> list[Any]:
+    def _patiently(self, words: str, values: Sequence[object], until: float, waiting: _Waiting) -> list[Any]:
         """Asks what waits for standbys. The wait is never cancelled, which would show a line that is not kept."""
-        waiting = waiting or _Waiting(self._tell)
 
         def task(link: Link) -> list[Any]:
             waiting.tries += 1

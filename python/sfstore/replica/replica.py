@@ -319,12 +319,15 @@ class Replica:
             store.stop()
 
         timer = threading.Timer(self._question_seconds, stop)
-        timer.start()
+        # Where an interrupt comes before it is noted that it runs, nobody waits for its end.
+        timer.daemon = True
         try:
+            timer.start()
             yield
         finally:
             timer.cancel()
-            timer.join()
+            if timer.is_alive():
+                timer.join()
 
     def _too_long(self, question: str) -> Refused:
         """Has the store begin again whose program was ended over a question, and gives the refusal."""

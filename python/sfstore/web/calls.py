@@ -7,13 +7,14 @@ import os
 import re
 import time
 from base64 import b64encode
-from collections.abc import Callable, Iterable, Iterator, Sequence
+from collections.abc import Callable, Iterable, Iterator, Mapping, Sequence
 from fractions import Fraction
 from typing import Any, TypeVar
 
 from sfstore import spelling
 from sfstore.broken import Broken, broken_by, remedy_of, sentence_of
 from sfstore.commands import Command, help_text, near_words
+from sfstore.editor import column_of
 from sfstore.extents import Box, extent_of
 from sfstore.faults import fault_at, fault_of
 from sfstore.geometry import Shape, read_wkb, write_wkt
@@ -24,7 +25,7 @@ from sfstore.mapgrid import GridChanged, MapGrid
 from sfstore.mapunits import MapUnits, NoPlace
 from sfstore.refusals import words_of
 from sfstore.rules import AnyRule, ValueRule, range_words, within
-from sfstore.store import Answer, Refused, Store, Value
+from sfstore.store import Answer, Column, Layer, Refused, Store, Value
 from sfstore.surroundings import Surroundings, far_question
 from sfstore.tools.fitting import Corner, fitted
 from sfstore.values import spelled
@@ -48,7 +49,7 @@ from sfstore.web.steps import LayerChange, Step
 from sfstore.web.stylefile import StyleError, StyleFile
 from sfstore.web.styles import Styles, style_of
 from sfstore.web.tables import PAGE_MAX, Reading, Tables, Wanted, conditions_of, labels_of
-from sfstore.web.windows import ELEMENTS_MAX, shapes_of, window_of
+from sfstore.web.windows import ELEMENTS_MAX, rows_asked, shapes_of, window_of
 
 __all__ = ["BadCall", "Calls", "Outdated"]
 
@@ -173,24 +174,26 @@ class Calls:
         """
 
         def question(store: Store) -> Body:
-            rules = store.rules()
-            layers = [
+            layers, rules = store.layers(), _by_column(store.rules())
+            told_layers = [
                 {
                     "name": layer.name,
                     "kind": layer.kind,
-                    "columns": [column._asdict() | _demanded(rules, layer.name, column.name) for column in store.columns(layer.name)],
+                    "columns": [column._asdict() | _demanded(rules, layer.name, column.name) for column in columns],
                 }
-                for layer in store.layers()
+                for layer, columns in zip(layers, _columns_of(store, layers))
             ]
             grid = self._looks.grid
             told = {"grid": _told_grid(grid), "grid_mark": grid.mark, "grid_fault": grid.fault or None}
             shown = {"store": self._looks.number, "content": self._looks.version}
-            return {**told, **shown, "layers": layers, "extent": extent_of(store) if body.get("extent") else None}
+            return {**told, **shown, "layers": told_layers}
 
         version, to_undo, to_redo = self._keeper.steps()
         steps = {"undo": self._step(to_undo), "redo": self._step(to_redo)}
         told = {"title": self._title, "version": version, "background": self._background and self._background._asdict()}
-        return {**told, **steps, **self._looks.ask(editor, question)}
+        answer = {**told, **steps, **self._looks.ask(editor, question)}
+        # A question of its own: of very many layers each takes its time.
+        return {**answer, "extent": self._looks.ask(editor, extent_of) if body.get("extent") else None}
 
     def _window(self, editor: int, body: Body) -> Body:
         """What a box has of the layers that are named."""
@@ -231,7 +234,7 @@ class Calls:
 
         def look(store: Store) -> Body:
             shape = read_wkb(bytes.fromhex(store.hex(layer, feature)))
-            values, rules = store.get(layer, feature)[0].values, store.rules()
+            values, rules = store.get(layer, feature)[0].values, _by_column(store.rules())
             told = [
                 {**column._asdict(), **_demanded(rules, layer, name), "value": _shown(values[name]) if name in values else None}
                 for column in store.columns(layer)
@@ -636,9 +639,24 @@ def _shown(value: Value) -> str:
     return value if isinstance(value, str) else spelled(value)
 
 
-def _demanded(rules: Iterable[AnyRule], layer: str, column: str) -> Body:
+def _columns_of(store: Store, layers: Sequence[Layer]) -> Iterator[list[Column]]:
+    """The columns of layers, asked in one go: there may be very many."""
+    for answer in store.run_all(f"columns {layer.name}" for layer in layers):
+        yield list(map(column_of, rows_asked(answer)))
+
+
+def _by_column(rules: Iterable[AnyRule]) -> dict[tuple[str, str], list[ValueRule]]:
+    """The rules on values, by their layers and columns."""
+    found: dict[tuple[str, str], list[ValueRule]] = {}
+    for rule in rules:
+        if isinstance(rule, ValueRule):
+            found.setdefault((rule.layer, rule.column), []).append(rule)
+    return found
+
+
+def _demanded(rules: Mapping[tuple[str, str], list[ValueRule]], layer: str, column: str) -> Body:
     """What the rules on a column say of its values, for whoever is to choose one: those that all allow, and a range in words."""
-    said = [rule for rule in rules if isinstance(rule, ValueRule) and (rule.layer, rule.column) == (layer, column)]
+    said = rules.get((layer, column), [])
     lists = [rule.allowed for rule in said if rule.demand == "one-of"]
     ranges = [rule for rule in said if rule.demand == "range"]
     told: Body = {}

@@ -338,6 +338,21 @@ class Writing(ReplicaCase):
         self.assert_told("a question took longer than 0.5 seconds: match w w")
         self.assertEqual(ann.run("add w POINT (1 1)"), "ok 2")
 
+    def test_nothing_waits_for_a_question_that_was_interrupted_as_it_began(self):
+        """Else the process would end when the question might have taken its time."""
+        [ann] = self.town("ann", question_seconds=600.0)
+        start = threading.Timer.start
+
+        def interrupted(timer):
+            start(timer)
+            raise KeyboardInterrupt
+
+        with unittest.mock.patch.object(threading.Timer, "start", interrupted), self.assertRaises(KeyboardInterrupt):
+            ann.run("show w")
+        left = [thread for thread in threading.enumerate() if thread is not threading.main_thread() and not thread.daemon]
+        self.assertEqual(left, [])
+        self.assertEqual(ann.run("show w"), [])
+
     def test_how_long_a_question_may_take_by_its_option(self):
         self.town("ann")[0].close()
         said = self.session("ann", b"match w w\nshow w\n", "--program", str(self.slow_program(20)), "--seconds", "0.5")
@@ -468,7 +483,7 @@ class Sessions(ReplicaCase):
                 self.assertEqual(self.asked(short, b"layers\n", 2), [b"rows 1", b"w point"])
         self.assertLess(len(os.listdir(f"/proc/{process.pid}/fd")), 100)
         process.send_signal(signal.SIGINT)
-        self.assertEqual(process.wait(30), 130)
+        self.assertEqual(process.wait(120), 130)
         self.assertIn(b"500 programs are connected, and no more are let in", process.stderr.read())
 
     def test_the_owner(self):

@@ -50,13 +50,13 @@ export class Overview {
     this.place();
   }
 
-  /** How many features of a layer a box has at least, as far as tiles tell it. */
-  least(layer, [left, bottom, right, top]) {
-    let most = 0;
-    for (const tile of this.tiles.values()) {
-      const size = SIDE * 2 ** tile.level;
-      const isWithin = tile.x * size >= left && tile.y * size >= bottom && (tile.x + 1) * size <= right && (tile.y + 1) * size <= top;
-      if (tile.layer === layer && isWithin) most = Math.max(most, tile.count);
+  /** How many features of each layer a box has at least, as far as tiles tell it. */
+  least([left, bottom, right, top]) {
+    const most = new Map();
+    for (const { layer, level, x, y, count } of this.tiles.values()) {
+      const size = SIDE * 2 ** level;
+      const isWithin = x * size >= left && y * size >= bottom && (x + 1) * size <= right && (y + 1) * size <= top;
+      if (isWithin) most.set(layer, Math.max(most.get(layer) ?? 0, count));
     }
     return most;
   }
@@ -130,7 +130,9 @@ export class Overview {
     pen.imageSmoothingEnabled = false;
     const level = this.#level();
     const shown = this.layers.length ? this.#shown(level) : [];
-    for (const { name, colour } of this.layers) {
+    // Of very many layers few have a picture yet.
+    const drawn = new Set([...this.tiles.values()].map(({ layer }) => layer));
+    for (const { name, colour } of this.layers.filter((layer) => drawn.has(layer.name))) {
       const tint = colour();
       for (const [x, y] of shown) this.#drawTile(pen, name, tint, level, x, y);
     }

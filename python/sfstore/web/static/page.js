@@ -31,6 +31,8 @@ const OF_FEATURE = /^[ \t]*(?:delete|replace|vertex[ \t]+[a-z]+)[ \t]+([^ \t]+)[
 const CHANGED_MAX = 1_000;
 const RENAMING = /^[ \t]*layer[ \t]+rename[ \t]+([^ \t]+)[ \t]+([^ \t]+)/;
 const ADDITION = /^[ \t]*(?:add|addhex)[ \t]+([^ \t]+)/;
+// Of more layers than this those alone are laid out that the list shows.
+const MANY_LAYERS = 500;
 const PAN_PIXELS = 60;
 // What is smaller on the screen than this is zoomed to.
 const SMALL_PIXELS = 12;
@@ -399,12 +401,14 @@ class App {
     for (const note of byId("layers").querySelectorAll("[data-count]")) {
       const layer = this.map.layer(note.dataset.count);
       const isVisible = layer && this.map.isVisible(layer);
-      note.textContent = isVisible ? counted(layer.inside) : layer?.shown ? "not at this scale" : "";
+      const words = isVisible ? counted(layer.inside) : layer?.shown ? "not at this scale" : "";
+      if (note.textContent !== words) note.textContent = words;
       note.closest("li").classList.toggle("unseen", !isVisible);
     }
   }
 
   #listLayers() {
+    byId("layers").classList.toggle("many", this.map.layers.length > MANY_LAYERS);
     byId("layers").replaceChildren(...this.map.layers.map((layer, place) => this.#layerItem(layer, place)));
     this.#tellCounts();
   }
