@@ -115,11 +115,10 @@ class OutAndIn(RuledCase):
             store.run_all(["layer add wells point", "add wells POINT (5 5)", "add wells POINT (7 5)"])
             for rule in rules:
                 store.add_rule(*rule)
-        grid, said, again = ["--grid", "0", "0", "1e-28"], self.folder / "said.rules", self.folder / "again.sfs"
-        status, _, err = give_back(self.store, self.target, *grid, "--crs", "EPSG:25832", "--rules", said)
-        self.assertEqual((status, err), (0, ""))
-        status, _, err = bring_in(self.target, again, *grid, "--rules", said)
-        self.assertEqual((status, err, self.rules(again)), (0, "", self.rules()))
+        grid, map_, said, again = ["--grid", "0", "0", "1e-28"], *(self.folder / name for name in ("map.geojson", "said.rules", "again.sfs"))
+        self.assertEqual(give_back(self.store, map_, *grid, "--rules", said)[0], 0)
+        status, _, err = bring_in(map_, again, *grid, "--rules", said)
+        self.assertEqual((status, err, [rule.ask for rule in self.rules(again)]), (0, "", [rule.ask for rule in rules]))
 
     def test_rules_take_the_place_of_no_file_of_the_map(self):
         self.made()
