@@ -525,13 +525,19 @@ class Calls:
         return f"{who} changed {feature} meanwhile, by `{self._shown_line(change.line)}`: look again."
 
     def _save(self, editor: int) -> Body:
+        name = self._editors.name_of(editor)
+
+        def told() -> None:
+            # The store is saved, whether the head of its journal can be read now or not.
+            with contextlib.suppress(OSError):
+                self._keeper.with_layer_changes(self._follow_layers)
+            self._history.take(name, "save", "save")
+            self.events.tell({"saved": name, "undo": None, "redo": None})
+
         try:
-            self._keeper.save()
+            self._keeper.save(told)
         except GridChanged as changed:
             raise Outdated(str(changed)) from None
-        self._keeper.ask_layer_changes(self._follow_layers)
-        self._history.take(self._editors.name_of(editor), "save", "save")
-        self.events.tell({"saved": self._editors.name_of(editor), "undo": None, "redo": None})
         return {"text": f"{self._title} is saved. The history begins anew."}
 
     def _refusal(self, refused: Refused, line: str) -> Body:

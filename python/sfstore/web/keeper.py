@@ -201,9 +201,17 @@ class Keeper:
         """A number that is another one whenever another store has taken the place of the one that was open. Any thread may ask it."""
         return self._store_number
 
-    def save(self) -> None:
-        """Saves the store; the history begins anew. `GridChanged` where its grid is another one than when it was opened."""
-        self._do(self._save)
+    def save(self, told: Callable[[], object] = lambda: None) -> None:
+        """Saves the store; the history begins anew. `GridChanged` where its grid is another one than when it was opened.
+
+        ``told`` is called behind it in the keeper's thread: no edit comes between.
+        """
+
+        def job(store: Store) -> None:
+            self._save(store)
+            told()
+
+        self._do(job)
 
     def snapshot(self) -> Snapshot:
         """The content as it is now. The journal is read in the thread that asks: edits do not wait for it."""
