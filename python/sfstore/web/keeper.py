@@ -20,7 +20,7 @@ from sfstore.web.batchlog import BatchLog, new_mark
 from sfstore.web.changes import Change, Changes, Target, seen_of
 from sfstore.web.steps import LayerChange, Step, Steps
 
-__all__ = ["Asked", "ChangedMeanwhile", "Edit", "Keeper", "Overtaken", "Snapshot", "StoreChanged", "Unavailable"]
+__all__ = ["Asked", "ChangedMeanwhile", "Edit", "Keeper", "Overtaken", "Snapshot", "StoreChanged", "Unavailable", "loaded"]
 
 _T = TypeVar("_T")
 
@@ -29,6 +29,7 @@ _EDIT_SECONDS, _LINE_SECONDS = 60.0, 0.005
 # How many versions each millisecond has room for, as a power of 2: no program carries out so many edits. A page
 # counts exactly up to 2**53, which are the milliseconds of some 139 years from 1970.
 _VERSIONS_OF_A_MILLISECOND = 11
+_WRITTEN_OVER = "The store's file was written by another program just now: ask again."
 
 
 class Unavailable(Exception):
@@ -218,7 +219,7 @@ class Keeper:
         while True:
             begun = self._do(self._begun)
             try:
-                return Snapshot(begun.opened, begun.read(), begun.version, begun.file, begun.grid, begun.store)
+                return Snapshot(begun.opened, begun.read(), *begun[2:])
             except (JournalError, OSError) as error:
                 if begun.opened is not None:
                     begun.opened.file.close()
@@ -400,8 +401,8 @@ class Keeper:
                 self._log.begin(store.unsaved, editor, lines)
 
         mark = new_mark() if len(batch.lines) > 1 else ""
-        if len(batch.lines) > 1 and not store.layers():
-            self._try(editor, batch.lines, mark)
+        if len(batch.lines) > 1 and (self._steps.to_redo is not None or not store.layers()):
+            self._try(store, editor, batch.lines, mark)
         outcome = carry_out(_speaker(store, editor), batch.lines, begin, mark)
         number = self._version + 1
         asked = (Asked(editor, page, line, None) for line, _ in outcome.accepted)
@@ -415,13 +416,15 @@ class Keeper:
         self._log.end()
         return Done(outcome.answers, self._version)
 
-    def _try(self, editor: int, lines: Sequence[str], mark: str) -> None:
-        """`LineRefused` where a line of a batch would be refused by a store without layers.
+    def _try(self, store: Store, editor: int, lines: Sequence[str], mark: str) -> None:
+        """`LineRefused` where a line of a batch would be refused, of which a part would be carried out before, and taken back.
 
-        It is tried in another program, by the same editor and with the same mark, which make a line longer: such a store
-        has no step that changes nothing, which would take the place of what could be redone of a batch that was taken back.
+        Nothing could be redone then that could be before, and a store without layers has no step that changes nothing: a part
+        of the batch could be redone. So it is tried in another program with the same content, by the same editor and with the
+        same mark, which make a line longer.
         """
-        trial = Store(program=self._program)
+        made = store.unsaved_lines
+        trial = loaded(self._program, Snapshot(store._open_file(), made, self._version, self._file, self._grid, self._store_number))
         try:
             outcome = self._limited(trial, len(lines), lambda: carry_out(_speaker(trial, editor), lines, mark=mark))
         finally:
@@ -496,6 +499,28 @@ class Keeper:
         unsaved = store.unsaved
         store.close(save=False)
         return unsaved
+
+
+def loaded(program: str, snapshot: Snapshot) -> Store:
+    """A program with the content of a snapshot. `Unavailable` where somebody has written over its file since it was looked at."""
+    opened = snapshot.opened
+    if opened is None:
+        return _replayed(Store(program=program, warn_far_off=False), snapshot)
+    with opened.file as file:
+        # The open file, since another one may stand under its name by now.
+        store = Store(program=program, load=file.fileno(), warn_far_off=False)
+        if not opened.is_as_seen():
+            store.close(save=False)
+            raise Unavailable(_WRITTEN_OVER)
+    return _replayed(store, snapshot)
+
+
+def _replayed(store: Store, snapshot: Snapshot) -> Store:
+    """A program with the edits behind the file of a snapshot. `Unavailable` where they do not fit what it has loaded."""
+    if any(isinstance(answer, Refused) for answer in store.run_all(snapshot.lines)):
+        store.close(save=False)
+        raise Unavailable(_WRITTEN_OVER)
+    return store
 
 
 def _speaker(store: Store, editor: int) -> Editor:

@@ -14,7 +14,7 @@ from typing import Protocol, TypeVar
 
 from sfstore.mapgrid import MapGrid
 from sfstore.store import ProgramEnded, Refused, Store
-from sfstore.web.keeper import Edit, Keeper, Snapshot, Unavailable
+from sfstore.web.keeper import Edit, Keeper, Unavailable, loaded
 
 __all__ = ["Mirror", "Watcher"]
 
@@ -23,8 +23,6 @@ _T = TypeVar("_T")
 # How many questions may wait at a time, and how many of one editor.
 _WAITING_MAX = 64
 _OF_ONE_EDITOR_MAX = 8
-
-_WRITTEN_OVER = "The store's file was written by another program just now: ask again."
 
 
 class _Turn:
@@ -168,7 +166,7 @@ class Mirror:
         while self._store is None:
             snapshot = self._keeper.snapshot()
             try:
-                self._store = _loaded(self._program, snapshot)
+                self._store = loaded(self._program, snapshot)
             except ProgramEnded as ended:
                 raise Unavailable(f"No second program can be had: {ended}.") from ended
             self._version, self._grid, self._number = snapshot.version, snapshot.grid, snapshot.store
@@ -194,25 +192,3 @@ def _place(places: threading.BoundedSemaphore, words: str) -> Iterator[None]:
         yield
     finally:
         places.release()
-
-
-def _loaded(program: str, snapshot: Snapshot) -> Store:
-    """A program with the content of a snapshot. `Unavailable` where somebody has written over its file since it was looked at."""
-    opened = snapshot.opened
-    if opened is None:
-        return _replayed(Store(program=program, warn_far_off=False), snapshot)
-    with opened.file as file:
-        # The open file, since another one may stand under its name by now.
-        store = Store(program=program, load=file.fileno(), warn_far_off=False)
-        if not opened.is_as_seen():
-            store.close(save=False)
-            raise Unavailable(_WRITTEN_OVER)
-    return _replayed(store, snapshot)
-
-
-def _replayed(store: Store, snapshot: Snapshot) -> Store:
-    """A program with the edits behind the file of a snapshot. `Unavailable` where they do not fit what it has loaded."""
-    if any(isinstance(answer, Refused) for answer in store.run_all(snapshot.lines)):
-        store.close(save=False)
-        raise Unavailable(_WRITTEN_OVER)
-    return store
