@@ -362,14 +362,14 @@ class ManyLayers(PageCase):
         self.make("".join(lines).encode())
         serving = self.serve("--seconds=120")
         self.assertEqual(serving.call("/map", extent=True)["extent"], [0, 0, 1990, 1490])
-        page = self.page(serving, known=("l1-1", (10, 0)))
+        page = self.page(serving, known=("l1-1", (10, 0)), is_there=lambda page: True)
+        page.until(page.drawn, 400)
         self.assertEqual(page.script("return document.querySelectorAll('#layers li').length"), self.LAYERS)
         status = page.text("#status")
         self.assertTrue(status.startswith("30,000 features in the window, 20,000 drawn one by one."), status)
         self.assertIn("So do 9,995 layers more.", status)
         page.type("add l7 POINT (35 35)", "ok 2")
-        page.until(lambda: page.drawn("l7-2"))
-        page.choose((35, 35), "l7 2, a point")
+        page.until(lambda: page.drawn("l7-2"), 100)
 
 
 if __name__ == "__main__":
