@@ -87,12 +87,17 @@ def town() -> Path:
 
 
 def imported(source: Path) -> Path:
-    """The store of a map of another format, beside it: as it was left, or imported on the grid that the import proposes."""
-    store = source.with_suffix(".sfs")
+    """The store of a map of another format, beside it: as it was left, or imported on the grid that the import proposes.
+
+    Its name has all of the map's: `map.gpkg` and `map.geojson` are two maps.
+    """
+    store = source.with_name(f"{source.name}.sfs")
     if store.exists():
-        # It does not say of which map it was made: `map.gpkg` and `map.geojson` have one name for theirs.
-        print(f"{store} is there already, and opened as it is. If it was made of another map, give {source} another name.")
+        print(f"{store} is opened as it was left.")
         return store
+    other = source.with_suffix(".sfs")
+    if other.exists():
+        print(f"{other} is left aside, as it may be of another map: ./start {other} opens it.")
     python = python_with(MAPS, needed=True)
     command = [python, "-m", "sfstore.exchange.importing"]
     asked = subprocess.run([*command, "--suggest", source], env=environment(), stdout=subprocess.PIPE, text=True, check=False)

@@ -29,7 +29,7 @@ def _pair_of(row: str) -> tuple[int, int]:
     return int(first), int(second)
 
 
-def _column_of(row: str) -> Column:
+def column_of(row: str) -> Column:
     """The column of a row."""
     name, column_type = row.split(" ")
     return Column(name, cast(ColumnType, column_type))
@@ -196,7 +196,7 @@ class Editor:
         ...     store.columns("wells")
         [Column(name='depth', type='int')]
         """
-        return [_column_of(row) for row in self._rows(f"columns {spelling.name(layer)}")]
+        return [column_of(row) for row in self._rows(f"columns {spelling.name(layer)}")]
 
     def add(self, layer: str, geometry: str | bytes) -> int:
         """Adds a feature to a layer, and gives its identifier.
@@ -793,7 +793,7 @@ class Editor:
             if isinstance(answer, Refused):
                 raise answer
         columns, rows = cast("list[list[str]]", answers)
-        types = dict(map(_column_of, columns))
+        types = dict(map(column_of, columns))
         return [feature_of(row, types) for row in rows]
 
     def _line(self, line: str) -> str:

@@ -9,10 +9,10 @@ import tempfile
 import time
 import warnings
 from collections.abc import Callable, Sequence
-from typing import IO, BinaryIO
+from typing import IO
 
 from sfstore import journal, sidecar
-from sfstore.kept import Kept
+from sfstore.kept import Kept, OpenFile
 from sfstore.language import QUESTIONS
 from sfstore.program import is_edit, started
 from sfstore.results import Answer, JournalError, PathName, ProgramEnded, Recovered, Refused
@@ -85,7 +85,7 @@ class Journaled:
         """`JournalError` where the file is not the one that the lines go on from."""
         return self.reading()()
 
-    def open_file(self) -> BinaryIO | None:
+    def open_file(self) -> OpenFile | None:
         """As `Kept.open_file` has it."""
         return self._kept.open_file()
 

@@ -9,14 +9,28 @@ import subprocess  # nosec B404: the store's own program is started, without a s
 import tempfile
 from collections.abc import Callable, Iterator
 from pathlib import Path
-from typing import IO, BinaryIO
+from typing import IO, BinaryIO, NamedTuple
 
 from sfstore import files, journal, sidecar
 from sfstore.program import checked_path
 from sfstore.results import JournalError
 from sfstore.storefile import is_store
 
-__all__ = ["Kept"]
+__all__ = ["Kept", "OpenFile"]
+
+
+class OpenFile(NamedTuple):
+    """The file of a store, open to be read by somebody else, as it was when the store's program had read it."""
+
+    file: BinaryIO
+    size: int
+    written: int
+    """When it was written last, in nanoseconds."""
+
+    def is_as_seen(self) -> bool:
+        """Whether nobody has written to the file since, be another one put in its place or not."""
+        found = os.fstat(self.file.fileno())
+        return (found.st_size, found.st_mtime_ns) == (self.size, self.written)
 
 
 class Kept:
@@ -45,11 +59,12 @@ class Kept:
 
         Tells how many bytes the journal has of an edit that was not written to its end: they will be
         dropped. `JournalError` and `OSError` as `journal.locked` and `journal.renew_old` have them, and `OSError` where a
-        pipe stands in the place of the file.
+        pipe stands in the place of the file, or the path is that of a file which is kept beside another store.
         """
         if Path(self.path).is_fifo():
             # The program would wait for it, with the lock.
             raise OSError(errno.EINVAL, "it is no file", self.path)
+        sidecar.check_no_own_file(self.path)
         with journal.locked_shortly(self.path):
             for path in (self.path, self.journal, sidecar.path_of(self.path)):
                 files.remove_leftovers(path)
@@ -118,7 +133,7 @@ class Kept:
 
         return read
 
-    def open_file(self) -> BinaryIO | None:
+    def open_file(self) -> OpenFile | None:
         """The file that the edits go on from, open; none where a store is new. `JournalError` where another one is there."""
         self.check()
         if not self._seen:
@@ -127,18 +142,22 @@ class Kept:
         if _state(file.fileno()) != self._seen:
             file.close()
             raise self._changed()
-        return file
+        _, _, size, written, _ = self._seen
+        return OpenFile(file, size, written)
 
     def copy(self, path: str, program: str) -> None:
         """Has a second program make another file of the store's file and the edits.
 
         It takes the place of a store that is there. `JournalError` where it can't be made, and where the path is one of
-        the store's own files, or of a file that is no store. The same where another session has the store there, or its
+        the own files of this store or another one, or of a file that is no store. The same where another session has the store there, or its
         journal has edits. What is there is then as it was.
         """
         target = os.path.realpath(path)
         if any(_is_same(target, own) for own in self._own_files()):
             raise JournalError(f"{path} is one of the files of {self.path}: no copy takes its place")
+        other = sidecar.store_beside(target)
+        if other is not None:
+            raise JournalError(f"{path} is one of the files of {other}: no copy takes its place")
         try:
             with _given_way(target), files.whole_file(target, None if os.path.exists(target) else self.path) as made:
                 self._have_made(made, path, program)
@@ -204,9 +223,8 @@ class Kept:
 
     def _own_files(self) -> Iterator[str]:
         """The paths of all files of the store."""
-        for ending in ("", ".lock"):
-            yield self.path + ending
-        yield from (self.journal, sidecar.path_of(self.path), sidecar.next_of(self.path))
+        yield self.path
+        yield from sidecar.beside(self.path)
         yield from (journal.new_file_of(self.path), journal.new_journal_of(self.path))
 
 

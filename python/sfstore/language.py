@@ -113,8 +113,8 @@ NAME = re.compile(r"[A-Za-z][A-Za-z0-9_]{0,31}")
 PATTERN = re.compile(r"[TtFf*012]{9}")
 """A pattern of matrices."""
 
-NEAR = re.compile(r"near [0-9]{1,30}(?:\.[0-9]{1,30})?")
-"""What joins and rules ask of two features that are no farther from one another than a distance."""
+NEAR = re.compile(r"near [0-9]{1,1400}(?:\.[0-9]{1,1400})?")
+"""What joins and rules ask of two features that are no farther from one another than a distance, in map units on any grid too."""
 
 Touched = Literal["layers", "columns", "geometries", "values", "features", "rules", "history"]
 """What an edit changes: which layers there are, their columns, geometries, values; rules; or it moves a step.

@@ -22,11 +22,10 @@ _MARK_DIGITS = 16
 class GridChanged(Exception):
     """The grid is another one than that for which something was meant. The text says so."""
 
+    _WORDS = "has another grid, or another reference system, than when it was opened"
+
     def __init__(self, path: str) -> None:
-        super().__init__(
-            f"{os.path.basename(path)} has another grid, or another reference system, than when it was opened: "
-            "look at the map again. Nothing was done."
-        )
+        super().__init__(f"{os.path.basename(path)} {self._WORDS}: look at the map again. Nothing was done.")
 
 
 class MapGrid:

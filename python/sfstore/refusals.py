@@ -6,7 +6,7 @@ from typing import NamedTuple
 
 from sfstore.language import GRID_MAX, GRID_MIN, LINE_MAX, POINTS_MAX, TEXT_MAX
 
-__all__ = ["BAD_FIELDS", "REFUSALS", "Words", "words_of"]
+__all__ = ["REFUSALS", "Words", "bad_field", "words_of"]
 
 
 class Words(NamedTuple):
@@ -97,6 +97,26 @@ BAD_FIELDS = {
     34: "the file is none of a store, or of a version that is not known",
 }
 """What is wrong with a field of a file, by the number that the program gives."""
+
+_RULE_FIELDS = {
+    ("form of a rule", 34): "rules of that form are not known: a later version may have written the file",
+    ("distance of a rule", 34): "the distance is too great",
+    ("ends of a rule", 34): "the ends of the range are none",
+    ("ends of a rule", 24): "the first end is behind the last",
+    ("number of values of a rule", 24): "a rule names 1 to 1,000 values",
+    ("type of a value of a rule", 24): "the type is none, or the column of the rule can't have the value",
+    ("column of a rule", 22): "the layer has no such column",
+    ("layer of a rule", 18): "no layer of the file has that name",
+    ("name of a rule", 40): "an earlier rule has that name",
+    ("what a rule asks", 32): "that is no predicate and no pattern",
+    ("rule", 37): "it does not hold for the features of the file",
+}
+
+
+def bad_field(name: str, number: int) -> str:
+    """What is wrong with a field of a file, by its name and the number that the program gives."""
+    known = _RULE_FIELDS.get((name, number))
+    return BAD_FIELDS.get(number, "it is wrong") if known is None else known
 
 
 def words_of(number: int) -> Words:

@@ -16,6 +16,7 @@ from dataclasses import asdict, dataclass, field, replace
 from typing import Any
 
 from sfstore import files
+from sfstore.storefile import is_store
 
 __all__ = [
     "LEFT_MAX",
@@ -26,12 +27,14 @@ __all__ = [
     "Sidecar",
     "SidecarError",
     "beside",
+    "check_no_own_file",
     "check_none",
     "follow",
     "next_of",
     "path_of",
     "read",
     "settle",
+    "store_beside",
     "write",
 ]
 
@@ -46,7 +49,9 @@ _RANGE = re.compile("(-?[0-9]{1,20})(?:-(-?[0-9]{1,20}))?")
 _PASSING = {errno.EAGAIN, errno.EINTR, errno.EIO, errno.EMFILE, errno.ENFILE, errno.ENOMEM, errno.ENOSPC, errno.ESTALE}
 # How many sources it names at most that were added.
 _ADDITIONS_MAX = 1_000
-_BESIDE = (".json", ".json.next", ".journal", ".journal.lock", ".lock", ".editors", ".batches", ".styles", ".qgis")
+_BESIDE = (".json", ".json.next", ".journal", ".journal.lock", ".lock", ".editors", ".batches", ".styles", ".qgis", ".socket")
+# What is made beside a file, to take its place.
+_MADE = re.compile(r"\.(.+)\.sfstore-[0-9a-z]+")
 
 
 class SidecarError(Exception):
@@ -164,6 +169,34 @@ def beside(store: str) -> list[str]:
     """What a session keeps beside a store's file, and no map or report takes the place of."""
     path = os.path.realpath(store)
     return [path + ending for ending in _BESIDE]
+
+
+def store_beside(path: str) -> str | None:
+    """The store whose session keeps a file under this path, beside the store's own; none where no store does."""
+    path = os.path.realpath(path)
+    folder, name = os.path.split(path)
+    made = _MADE.fullmatch(name)
+    if made:
+        return os.path.join(folder, made[1])
+    stores = (path[: -len(ending)] for ending in _BESIDE if name.endswith(ending) and name != ending)
+    return next((store for store in stores if _is_store(store)), None)
+
+
+def _is_store(path: str) -> bool:
+    """Whether a path is that of a store's file, be it there or not: by its name, by its journal, or by what it begins with."""
+    if path.endswith(".sfs") or os.path.lexists(path + ".journal"):
+        return True
+    try:
+        return os.path.isfile(path) and os.path.getsize(path) > 0 and is_store(path)
+    except OSError:
+        return False
+
+
+def check_no_own_file(path: str) -> None:
+    """`OSError` where a session of a store keeps a file of its own under a path: no store takes its place."""
+    store = store_beside(path)
+    if store is not None:
+        raise OSError(errno.EINVAL, f"it is kept beside {os.path.basename(store)}, and no store takes its place", path)
 
 
 def settle(store: str) -> bool:

@@ -21,13 +21,14 @@ import os
 import warnings
 from collections.abc import Callable
 from types import TracebackType
-from typing import TYPE_CHECKING, BinaryIO, Literal, overload
+from typing import TYPE_CHECKING, Literal, overload
 
 from sfstore import sidecar
 from sfstore.editor import Editor
 from sfstore.extents import extent_of
 from sfstore.group import Added, Group, Which
 from sfstore.journaled import Journaled
+from sfstore.kept import OpenFile
 from sfstore.mapunits import MapUnits, NoPlace
 from sfstore.program import checked_path, started
 from sfstore.results import (
@@ -94,7 +95,8 @@ class Store(Editor):
     ``load`` names a file to begin with, by its path or by the number of an open one, and ``save`` one to which the store is
     saved when it is closed.
     ``program`` is a path, or a name that is searched on the ``PATH``.
-    `ProgramEnded` if the file can't be loaded, and `OSError` if a path is not UTF-8: the program takes no other.
+    `ProgramEnded` if the file can't be loaded, and `OSError` if a path is not UTF-8: the program takes no other. The same if a
+    file would be saved in the place of one that is kept beside a store, as its journal or its lock.
 
     `close`, or the end of a ``with``, closes a store and saves it; nothing else does. If an
     exception leaves the body of the ``with``, or a store is dropped without having been closed, the
@@ -167,6 +169,7 @@ class Store(Editor):
             if load is not None:
                 words.append(f"--load=/dev/fd/{load}" if isinstance(load, int) else f"--load={checked_path(load)}")
             if save is not None:
+                sidecar.check_no_own_file(os.fsdecode(save))
                 words.append(f"--save={checked_path(save)}")
             super().__init__(started(words, handed=handed), "", look)
             return
@@ -246,7 +249,7 @@ class Store(Editor):
         """Writes a store with a journal as it is now to another file; nothing else is changed.
 
         The copy takes the place of a store that is there when it is whole, and not before.
-        `JournalError` if it can't be made, if the path is one of the store's own files, or if
+        `JournalError` if it can't be made, if the path is one of the own files of this store or another one, or if
         another program has changed the store's file or its journal. So it is if the file there is
         no store, if another session has it open, or if its journal has edits. `RuntimeError`
         without a journal.
@@ -271,7 +274,7 @@ class Store(Editor):
         """
         return self._journaled().unsaved_lines
 
-    def _open_file(self) -> BinaryIO | None:
+    def _open_file(self) -> OpenFile | None:
         """The file that `unsaved_lines` go on from, open, be another one put in its place; none where a new store was not saved yet."""
         return self._journaled().open_file()
 

@@ -15,7 +15,7 @@ from typing import BinaryIO, NamedTuple, cast, overload
 
 from sfstore import files, values
 from sfstore.language import DISTANCE_LIMIT, DISTANCE_PLACES, PREDICATES
-from sfstore.refusals import BAD_FIELDS
+from sfstore.refusals import bad_field
 from sfstore.results import RULE_BROKEN, Value
 from sfstore.rules import AnyRule, Demand, Rule, RuleForm, ValueRule, near_asked
 
@@ -176,7 +176,7 @@ def fault_words(path: str, last: str) -> str:
     with open(path, "rb") as file:
         # A rule that does not hold is wrong as a whole, and begins with its name.
         name = "rule" if number == RULE_BROKEN else field_at(file.read(), place)
-    return f"place {place}, {name}: {BAD_FIELDS.get(number, 'it is wrong')} ({number})"
+    return f"place {place}, {name}: {bad_field(name, number)} ({number})"
 
 
 _HEAD, _BYTE, _SHORT, _LONG = struct.Struct(">II"), struct.Struct(">B"), struct.Struct(">H"), struct.Struct(">q")

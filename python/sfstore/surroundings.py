@@ -9,7 +9,7 @@ import contextlib
 import itertools
 import re
 import sys
-from collections.abc import Callable, Iterator, Sequence
+from collections.abc import Callable, Iterable, Iterator, Sequence
 from typing import NamedTuple
 
 from sfstore.extents import Box
@@ -17,7 +17,7 @@ from sfstore.geometry import NotTaken, Shape, read_wkb, read_wkt
 from sfstore.groups import lines_of
 from sfstore.language import words_before_geometry, words_of_line
 
-__all__ = ["FarOffTheMap", "Surroundings", "far_question", "level_of_caller"]
+__all__ = ["FarOffTheMap", "Surroundings", "far_question", "level_of_caller", "points_far_off"]
 
 # How far off a map something lies that is far off it: so many times what the map is wide or high, and so many steps besides.
 _FAR_SIDES, _FAR_STEPS = 10, 100_000
@@ -111,6 +111,13 @@ def _bounds_of(extent: Box) -> _Bounds:
     return _Bounds(left - far, bottom - far, right + far, top + far)
 
 
+def points_far_off(extent: Box, shapes: Iterable[Shape]) -> list[Point]:
+    """Of each shape that lies far off a map the first point that does, in steps. ``extent`` is how far the map reaches."""
+    bounds = _bounds_of(extent)
+    far = (next((point for point in _points_of_shape(shape) if not bounds.has(point)), None) for shape in shapes)
+    return [point for point in far if point is not None]
+
+
 def _points(line: str) -> Iterator[Point]:
     """The points that a line or a group brings as an edit. Of what can't be read the store says what is wrong."""
     for each in lines_of(line):
@@ -125,9 +132,13 @@ def _points_of(words: Sequence[str]) -> Iterator[Point]:
         x, y = (int(word.partition(".")[0]) for word in words[_WORDS_TO_VERTEX:])
         yield x, y
     elif words[0] != "together":
-        for member in _shape(words).members:
-            for line in member:
-                yield from ((int(x), int(y)) for x, y in zip(line[::2], line[1::2]))
+        yield from _points_of_shape(_shape(words))
+
+
+def _points_of_shape(shape: Shape) -> Iterator[Point]:
+    for member in shape.members:
+        for line in member:
+            yield from ((int(x), int(y)) for x, y in zip(line[::2], line[1::2]))
 
 
 def _shape(words: Sequence[str]) -> Shape:

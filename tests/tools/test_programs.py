@@ -4,6 +4,7 @@ from __future__ import annotations
 
 import contextlib
 import io
+import json
 import os
 import shutil
 import stat
@@ -364,14 +365,28 @@ class Start(unittest.TestCase):
     def test_a_map_of_another_format_is_imported_beside_it_once(self) -> None:
         shutil.copy(TOP / "examples" / "town.gpkg", self.folder)
         _, said, _ = self.said("town.gpkg")
-        store = self.folder / "town.sfs"
-        self.assertIn("town.gpkg was imported into town.sfs, on the grid 500000 5600000 1.", said)
+        store = self.folder / "town.gpkg.sfs"
+        self.assertIn("town.gpkg was imported into town.gpkg.sfs, on the grid 500000 5600000 1.", said)
         first = store.read_bytes()
         asked = subprocess.run([programs.PLACE / "sfstore", "--load", store], input=b"layers\n", capture_output=True, check=True)
         self.assertEqual(len(asked.stdout.splitlines()), 4)
         _, said, _ = self.said("town.gpkg")
-        self.assertIn("town.sfs is there already, and opened as it is. If it was made of another map, give town.gpkg another name.", said)
+        self.assertIn("town.gpkg.sfs is opened as it was left.", said)
         self.assertEqual(store.read_bytes(), first)
+
+    @unittest.skipUnless(find_spec("osgeo"), "no GDAL for Python (python3-gdal)")
+    def test_another_map_of_the_same_name_is_imported_too(self) -> None:
+        shutil.copy(TOP / "examples" / "town.gpkg", self.folder)
+        self.said("town.gpkg")
+        point = {"type": "Feature", "id": 1, "properties": {}, "geometry": {"type": "Point", "coordinates": [7, 51]}}
+        (self.folder / "town.geojson").write_text(json.dumps({"type": "FeatureCollection", "features": [point]}), encoding="utf-8")
+        shutil.copy(self.folder / "town.gpkg.sfs", self.folder / "town.sfs")
+        _, said, _ = self.said("town.geojson")
+        self.assertIn("town.sfs is left aside, as it may be of another map: ./start town.sfs opens it.", said)
+        self.assertIn("town.geojson was imported into town.geojson.sfs", said)
+        store = self.folder / "town.geojson.sfs"
+        asked = subprocess.run([programs.PLACE / "sfstore", "--load", store], input=b"layers\n", capture_output=True, check=True)
+        self.assertEqual(asked.stdout, b"rows 1\ntown point\n")
 
     @unittest.skipUnless(find_spec("osgeo"), "no GDAL for Python (python3-gdal)")
     def test_what_is_no_map_leaves_no_store(self) -> None:
@@ -379,7 +394,7 @@ class Start(unittest.TestCase):
         status, _, fault = self.said("notes.gpkg")
         self.assertEqual(status, 2)
         self.assertIn("start: notes.gpkg can't be imported", fault)
-        self.assertFalse((self.folder / "notes.sfs").exists())
+        self.assertFalse((self.folder / "notes.gpkg.sfs").exists())
 
 
 class Words(unittest.TestCase):

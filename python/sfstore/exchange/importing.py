@@ -36,6 +36,8 @@ from sfstore.exchange.sources import check_unchanged, of_one_moment, open_source
 from sfstore.exchange.stamps import stamps_of
 from sfstore.exchange.suggesting import suggestion
 from sfstore.exchange.telling import Brought, BroughtFeature, Telling
+from sfstore.extents import Box, extent_of
+from sfstore.geometry import read_wkb
 from sfstore.language import COLUMN_TYPES, LAYERS_MAX
 from sfstore.mapunits import MapUnits, NoPlace
 from sfstore.refusals import words_of
@@ -44,6 +46,7 @@ from sfstore.rules import AnyRule, ValueRule, with_distance
 from sfstore.sidecar import Addition, Crs, Sidecar
 from sfstore.store import Store
 from sfstore.storefile import FileLayer
+from sfstore.surroundings import points_far_off
 
 __all__ = ["Result", "Wishes", "add_in", "bring_in", "main", "parser"]
 
@@ -330,6 +333,7 @@ def _added(wishes: Wishes, store: Store, path: str, sources: list[Source], repor
     noted = known.with_additions(_additions(wishes, zip(contents, readings)))
     if noted != known and known.digests:
         sidecar.write(path, noted, known.digests)
+    extent = extent_of(store)
     added = add(store, path, wishes.program, contents)
     names = {content.name: reading.source_name for content, reading in zip(contents, readings)}
     if added.refused is not None:
@@ -346,7 +350,18 @@ def _added(wishes: Wishes, store: Store, path: str, sources: list[Source], repor
         return Result(report, crs, fault=_fault(added.refused, added.broken, grid))
     for layer, identifiers in added.identifiers.items():
         report.note(names[layer], f"they are {identifiers[0]} to {identifiers[-1]} of {layer}")
+    if extent is not None:
+        _tell_far_off(contents, names, extent, MapUnits(*known.grid), report)
     return Result(report, crs, _steps(wishes.target, added.steps))
+
+
+def _tell_far_off(contents: list[FileLayer], names: dict[str, str], extent: Box, units: MapUnits, report: Report) -> None:
+    """Tells of features that were added far off a map that reached so far before: mostly that is a mistake."""
+    for content in contents:
+        far = points_far_off(extent, (read_wkb(feature.geometry) for feature in content.features))
+        if far:
+            said = "1 feature lies" if len(far) == 1 else f"{len(far)} features lie"
+            report.note(names[content.name], f"{said} far off the map, as at {units.point_text(far[0])}: is it meant? `undo` takes all that was added back")
 
 
 def _known(path: str, wishes: Wishes) -> Sidecar:

@@ -25,7 +25,7 @@ import threading
 from collections.abc import Callable, Iterator
 from dataclasses import dataclass
 
-from sfstore import files
+from sfstore import files, sidecar
 from sfstore.exchange.ogr import ExchangeError
 
 __all__ = ["Place", "check_free", "placed", "room_beside", "uninterrupted"]
@@ -67,7 +67,11 @@ class Place:
 
 
 def check_free(place: Place) -> None:
-    """`ExchangeError` where something that may not be replaced is in the way."""
+    """`ExchangeError` where something that may not be replaced is in the way, or would be taken for a file of a store."""
+    for name in place.names:
+        store = sidecar.store_beside(place.path(name))
+        if store is not None:
+            raise ExchangeError(f"{place.path(name)} is kept beside {store}: name another file")
     for name in place.present():
         path = place.path(name)
         found = os.lstat(path).st_mode

@@ -48,6 +48,9 @@ def check_target(target: str, overwrite: bool, given_way: str = "") -> None:
         raise ExchangeError(f"{target} is no file")
     if os.path.exists(target) and not is_store(target):
         raise ExchangeError(f"{target} is no store, and --overwrite replaces no other file by one: take it away, or name another file")
+    other = sidecar.store_beside(target)
+    if other is not None:
+        raise ExchangeError(f"{target} is kept beside {other}: name another file")
     edits = journal.edits_left(os.path.realpath(target))
     if edits:
         raise ExchangeError(

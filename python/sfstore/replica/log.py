@@ -6,6 +6,7 @@ import hashlib
 import os
 import re
 import time
+import uuid
 from collections.abc import Callable, Sequence
 from pathlib import Path
 from typing import Any, NamedTuple, TypeVar
@@ -13,7 +14,7 @@ from typing import Any, NamedTuple, TypeVar
 from sfstore import files
 from sfstore.replica.links import Link, LinkLost, LogRefused, NoAnswer, place_of, servers_of
 
-__all__ = ["Entry", "Fence", "Following", "LogUnreachable", "Standing", "Writing", "chained"]
+__all__ = ["Dropped", "Entry", "Fence", "Following", "LogUnreachable", "Standing", "Writing", "chained", "new_key"]
 
 _T = TypeVar("_T")
 
@@ -35,8 +36,46 @@ _STANDING = """
 """
 
 
+# Where a key has the place from which on its line is tried, and what else says that it has one: version and variant.
+_PLACE_AT, _PLACES_MAX = 80, 1 << 48
+_VERSION, _VARIANT = 8 << 76, 2 << 62
+_RANDOM = ((1 << 12) - 1) << 64 | ((1 << 62) - 1)
+
+# Nobody can sleep between the look and the lines: both are one statement.
+_APPEND = """
+    SELECT first, CASE WHEN coalesce(%s::bigint, first) >= first - 1 THEN sfstore.append(%s::uuid[], %s) END
+    FROM (SELECT coalesce((SELECT min(at) FROM sfstore.log), (SELECT at + 1 FROM sfstore.head)) AS first) AS log
+"""
+
+
 class LogUnreachable(Exception):
     """No server of the log could be used in the time that was given. The text has the reason for each."""
+
+
+class Dropped(Exception):
+    """Lines are not written: what stood in the log behind the place from which on they are tried was dropped, and maybe they with it."""
+
+    def __init__(self, first: int, is_first_try: bool) -> None:
+        super().__init__(first, is_first_try)
+        self.first = first
+        """The place at which the log begins."""
+        self.is_first_try = is_first_try
+        """Whether nothing was sent before."""
+
+
+def new_key(place: int) -> str:
+    """The key of a line that is tried from now on, when the log is known up to a place: the key says which, whoever tries it again.
+
+    >>> tried_since(new_key(7))
+    7
+    """
+    return str(uuid.UUID(int=(place % _PLACES_MAX) << _PLACE_AT | _VERSION | _VARIANT | uuid.uuid4().int & _RANDOM))
+
+
+def tried_since(key: str) -> int | None:
+    """The place of the log up to which the line of a key is not to be looked for; none of a key that does not say it."""
+    given = uuid.UUID(key)
+    return given.int >> _PLACE_AT if given.version == 8 else None
 
 
 class Entry(NamedTuple):
@@ -370,26 +409,32 @@ class Writing(_Servers):
 
         A place is no acknowledgement: a line is kept where `Following.behind` gives it. Where no
         server takes the lines by some moment, `LogUnreachable`: it is not known whether they stand.
+        `Dropped` where they may have stood, and their keys were dropped since: they would stand twice.
         """
-        rows = self._patiently("SELECT sfstore.append(%s::uuid[], %s)", (list(keys), list(lines)), until)
-        return list(rows[0][0])
+        waiting = _Waiting(self._tell)
+        since = min((place for place in map(tried_since, keys) if place is not None), default=None)
+        [(first, places)] = self._patiently(_APPEND, (since, list(keys), list(lines)), until, waiting)
+        if places is None:
+            raise Dropped(first, waiting.tries == 1)
+        return list(places)
 
     def cut(self, key: str, until: float) -> int:
         """Puts a cut down, and gives its place."""
-        [(place,)] = self._patiently("SELECT sfstore.cut(%s)", (key,), until)
+        [(place,)] = self._patiently("SELECT sfstore.cut(%s)", (key,), until, _Waiting(self._tell))
         return int(place)
 
     def drop_before(self, place: int, replicas: int, age: str, until: float) -> int:
         """Drops all up to a cut of which so many replicas have the same file; how many entries those were."""
         words = "SELECT sfstore.drop_before(%s, %s, %s::interval)"
-        [(dropped,)] = self._patiently(words, (place, replicas, age), until)
+        [(dropped,)] = self._patiently(words, (place, replicas, age), until, _Waiting(self._tell))
         return int(dropped)
 
-    def _patiently(self, words: str, values: Sequence[object], until: float) -> list[Any]:
+    def _patiently(self, words: str, values: Sequence[object], until: float, waiting: _Waiting) -> list[Any]:
         """Asks what waits for standbys. The wait is never cancelled, which would show a line that is not kept."""
-        waiting = _Waiting(self._tell)
 
         def task(link: Link) -> list[Any]:
+            waiting.tries += 1
+
             def tick() -> None:
                 waiting.tick(link.dsn)
                 self.look_around(link)
@@ -412,6 +457,8 @@ class _Waiting:
         self._begun = time.monotonic()
         self._next = 0.0
         self.reason = ""
+        self.tries = 0
+        """How often it was sent."""
 
     def tick(self, dsn: str) -> None:
         """Has a look over another connection to the server, since the first one waits."""

@@ -6,7 +6,6 @@ import contextlib
 import os
 import threading
 import time
-import uuid
 from collections import Counter
 from collections.abc import Callable, Iterable, Iterator, Sequence
 from pathlib import Path
@@ -17,7 +16,7 @@ from sfstore.groups import lines_of, size_of
 from sfstore.journal import locked
 from sfstore.replica.lines import Asked, asked
 from sfstore.replica.links import LogRefused, check_driver
-from sfstore.replica.log import Entry, Fence, Following, LogUnreachable, Writing, chained
+from sfstore.replica.log import Dropped, Entry, Fence, Following, LogUnreachable, Writing, chained, new_key
 from sfstore.replica.snapshots import Snapshot, Snapshots
 from sfstore.replica.telling import Teller
 from sfstore.store import Answer, ProgramEnded, Refused, Store
@@ -60,7 +59,10 @@ class NotAcknowledged(Exception):
 
 
 class AnswerGone(Exception):
-    """A line that was tried again stands in the log, but its answer is not known here any more."""
+    """A line that was tried again stands in the log, or stood there, but its answer is not known here any more.
+
+    Where the log was dropped meanwhile it may not have stood. Nothing is written again: the text says what to do.
+    """
 
 
 class ReplicaStopped(Exception):
@@ -232,14 +234,17 @@ class Replica:
         `NotAcknowledged` they are tried again. `LogRefused` where the log takes none of them,
         `ValueError` where they are more than 1,000.
         """
-        keys = [str(uuid.uuid4()) for _ in lines] if keys is None else list(keys)
+        is_new = keys is None
+        keys = [new_key(max(self._fence.at, self._seen)) for _ in lines] if keys is None else list(keys)
         if len(lines) > _GROUP_LINES:
             raise ValueError(f"{_GROUP_LINES} lines can be put down at once, not {len(lines)}")
         until = time.monotonic() + self._patience
         self._awaited = frozenset(keys)
         try:
             while self._put_down(keys, lines, until):
-                pass
+                is_new = False
+        except Dropped as dropped:
+            raise self._not_written(dropped, is_new) from dropped
         except LogUnreachable as error:
             raise NotAcknowledged(keys, str(error)) from error
         return [self._answers[key] for key in keys]
@@ -251,7 +256,12 @@ class Replica:
         from the next primary. `AnswerGone` where they stand, and were carried out before.
         """
         places = self._writing.append(keys, lines, until)
-        self._catch_up(max(places, default=0), until)
+        try:
+            self._catch_up(max(places, default=0), until)
+        except ReplicaStopped as stopped:
+            raise ReplicaStopped(
+                f"{stopped}. The log has what was written last, from place {min(places, default=0)} on: do not write it again"
+            ) from stopped
         gone = [key for key in keys if key not in self._answers]
         if not gone:
             return False
@@ -259,6 +269,15 @@ class Replica:
         if len(standing) == len(gone):
             raise AnswerGone(f"place {min(standing)} of the log was carried out before it was asked for here")
         return True
+
+    def _not_written(self, dropped: Dropped, is_new: bool) -> AnswerGone | ReplicaStopped:
+        """What is raised where the log was dropped behind the place from which on lines were tried: they would stand twice."""
+        if is_new and dropped.is_first_try:
+            return ReplicaStopped(f"{self._left_behind(dropped.first)}. Nothing was written")
+        return AnswerGone(
+            f"the log was dropped up to place {dropped.first - 1} since these lines were written first, and nothing was written again: "
+            "look whether the store has them, and write those that it has not as new ones"
+        )
 
     # What a line is answered with
 
@@ -300,12 +319,15 @@ class Replica:
             store.stop()
 
         timer = threading.Timer(self._question_seconds, stop)
-        timer.start()
+        # Where an interrupt comes before it is noted that it runs, nobody waits for its end.
+        timer.daemon = True
         try:
+            timer.start()
             yield
         finally:
             timer.cancel()
-            timer.join()
+            if timer.is_alive():
+                timer.join()
 
     def _too_long(self, question: str) -> Refused:
         """Has the store begin again whose program was ended over a question, and gives the refusal."""

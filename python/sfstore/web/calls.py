@@ -7,13 +7,14 @@ import os
 import re
 import time
 from base64 import b64encode
-from collections.abc import Callable, Iterable, Iterator, Sequence
+from collections.abc import Callable, Iterable, Iterator, Mapping, Sequence
 from fractions import Fraction
 from typing import Any, TypeVar
 
 from sfstore import spelling
 from sfstore.broken import Broken, broken_by, remedy_of, sentence_of
 from sfstore.commands import Command, help_text, near_words
+from sfstore.editor import column_of
 from sfstore.extents import Box, extent_of
 from sfstore.faults import fault_at, fault_of
 from sfstore.geometry import Shape, read_wkb, write_wkt
@@ -24,7 +25,7 @@ from sfstore.mapgrid import GridChanged, MapGrid
 from sfstore.mapunits import MapUnits, NoPlace
 from sfstore.refusals import words_of
 from sfstore.rules import AnyRule, ValueRule, range_words, within
-from sfstore.store import Answer, Refused, Store, Value
+from sfstore.store import Answer, Column, Layer, Refused, Store, Value
 from sfstore.surroundings import Surroundings, far_question
 from sfstore.tools.fitting import Corner, fitted
 from sfstore.values import spelled
@@ -48,7 +49,7 @@ from sfstore.web.steps import LayerChange, Step
 from sfstore.web.stylefile import StyleError, StyleFile
 from sfstore.web.styles import Styles, style_of
 from sfstore.web.tables import PAGE_MAX, Reading, Tables, Wanted, conditions_of, labels_of
-from sfstore.web.windows import ELEMENTS_MAX, shapes_of, window_of
+from sfstore.web.windows import ELEMENTS_MAX, rows_asked, shapes_of, window_of
 
 __all__ = ["BadCall", "Calls", "Outdated"]
 
@@ -167,26 +168,32 @@ class Calls:
         return {"editor": editor, "name": self._editors.name_of(editor)}
 
     def _map(self, editor: int, body: Body) -> Body:
-        """The layers with their columns, whose step is next, and how far the map reaches."""
+        """The layers with their columns, whose step is next, and how far the map reaches.
+
+        They are those of a version of a store, which ``content`` and ``store`` name.
+        """
 
         def question(store: Store) -> Body:
-            rules = store.rules()
-            layers = [
+            layers, rules = store.layers(), _by_column(store.rules())
+            told_layers = [
                 {
                     "name": layer.name,
                     "kind": layer.kind,
-                    "columns": [column._asdict() | _demanded(rules, layer.name, column.name) for column in store.columns(layer.name)],
+                    "columns": [column._asdict() | _demanded(rules, layer.name, column.name) for column in columns],
                 }
-                for layer in store.layers()
+                for layer, columns in zip(layers, _columns_of(store, layers))
             ]
             grid = self._looks.grid
             told = {"grid": _told_grid(grid), "grid_mark": grid.mark, "grid_fault": grid.fault or None}
-            return {**told, "layers": layers, "extent": extent_of(store) if body.get("extent") else None}
+            shown = {"store": self._looks.number, "content": self._looks.version}
+            return {**told, **shown, "layers": told_layers}
 
         version, to_undo, to_redo = self._keeper.steps()
         steps = {"undo": self._step(to_undo), "redo": self._step(to_redo)}
         told = {"title": self._title, "version": version, "background": self._background and self._background._asdict()}
-        return {**told, **steps, **self._looks.ask(editor, question)}
+        answer = {**told, **steps, **self._looks.ask(editor, question)}
+        # A question of its own: of very many layers each takes its time.
+        return {**answer, "extent": self._looks.ask(editor, extent_of) if body.get("extent") else None}
 
     def _window(self, editor: int, body: Body) -> Body:
         """What a box has of the layers that are named."""
@@ -227,7 +234,7 @@ class Calls:
 
         def look(store: Store) -> Body:
             shape = read_wkb(bytes.fromhex(store.hex(layer, feature)))
-            values, rules = store.get(layer, feature)[0].values, store.rules()
+            values, rules = store.get(layer, feature)[0].values, _by_column(store.rules())
             told = [
                 {**column._asdict(), **_demanded(rules, layer, name), "value": _shown(values[name]) if name in values else None}
                 for column in store.columns(layer)
@@ -280,7 +287,7 @@ class Calls:
             if words[0] in QUESTIONS:
                 answer = self._asked(editor, line, grid)
                 return _answered(_in_units(units, line, answer) if units else answer)
-            return self._edit(Asked(editor, page, line, seen, grid.mark))
+            return self._edit(Asked(editor, page, line, seen, grid.mark, _store(body)))
         except Refused as refused:
             return {"refused": self._refusal(refused, line if refused.member is None else refused.line)}
         except ValueError as error:
@@ -325,7 +332,7 @@ class Calls:
 
         The page says which version it has seen: who has changed since then what the tool changes was there before.
         """
-        seen = _number(body, "seen", 0, 2**53)
+        seen, over = _number(body, "seen", 0, 2**53), _store(body)
         lines: list[str] = []
         for _ in range(_DRAWINGS_MAX):
             grid = self._grid_for(body)
@@ -339,7 +346,7 @@ class Calls:
                 if question:
                     return {"question": question}
                 batch = batch_of(editor, _page(body), lines, [seen if feature_of(line) else None for line in lines])
-                done = self._changing(editor, lambda: self._keeper.carry_out_all(batch, drawn.version, grid.mark))
+                done = self._changing(editor, lambda: self._keeper.carry_out_all(batch, drawn.version, grid.mark, over))
                 answer = " ".join(["ok", *(answer[3:] for answer in done.answers if answer != "ok")])
                 return {"answer": answer, "changed": _changed(lines)}
             except Overtaken:
@@ -518,13 +525,19 @@ class Calls:
         return f"{who} changed {feature} meanwhile, by `{self._shown_line(change.line)}`: look again."
 
     def _save(self, editor: int) -> Body:
+        name = self._editors.name_of(editor)
+
+        def told() -> None:
+            # The store is saved, whether the head of its journal can be read now or not.
+            with contextlib.suppress(OSError):
+                self._keeper.with_layer_changes(self._follow_layers)
+            self._history.take(name, "save", "save")
+            self.events.tell({"saved": name, "undo": None, "redo": None})
+
         try:
-            self._keeper.save()
+            self._keeper.save(told)
         except GridChanged as changed:
             raise Outdated(str(changed)) from None
-        self._keeper.ask_layer_changes(self._follow_layers)
-        self._history.take(self._editors.name_of(editor), "save", "save")
-        self.events.tell({"saved": self._editors.name_of(editor), "undo": None, "redo": None})
         return {"text": f"{self._title} is saved. The history begins anew."}
 
     def _refusal(self, refused: Refused, line: str) -> Body:
@@ -632,9 +645,24 @@ def _shown(value: Value) -> str:
     return value if isinstance(value, str) else spelled(value)
 
 
-def _demanded(rules: Iterable[AnyRule], layer: str, column: str) -> Body:
+def _columns_of(store: Store, layers: Sequence[Layer]) -> Iterator[list[Column]]:
+    """The columns of layers, asked in one go: there may be very many."""
+    for answer in store.run_all(f"columns {layer.name}" for layer in layers):
+        yield list(map(column_of, rows_asked(answer)))
+
+
+def _by_column(rules: Iterable[AnyRule]) -> dict[tuple[str, str], list[ValueRule]]:
+    """The rules on values, by their layers and columns."""
+    found: dict[tuple[str, str], list[ValueRule]] = {}
+    for rule in rules:
+        if isinstance(rule, ValueRule):
+            found.setdefault((rule.layer, rule.column), []).append(rule)
+    return found
+
+
+def _demanded(rules: Mapping[tuple[str, str], list[ValueRule]], layer: str, column: str) -> Body:
     """What the rules on a column say of its values, for whoever is to choose one: those that all allow, and a range in words."""
-    said = [rule for rule in rules if isinstance(rule, ValueRule) and (rule.layer, rule.column) == (layer, column)]
+    said = rules.get((layer, column), [])
     lists = [rule.allowed for rule in said if rule.demand == "one-of"]
     ranges = [rule for rule in said if rule.demand == "range"]
     told: Body = {}
@@ -756,6 +784,11 @@ def _number(body: Body, name: str, least: int, most: int) -> int:
     if type(number) is not int or not least <= number <= most:
         raise BadCall(f"{name} has to be a whole number from {least} to {most}")
     return number
+
+
+def _store(body: Body) -> int | None:
+    """The number of the store that who calls has before them, where they say it."""
+    return None if body.get("store") is None else _number(body, "store", 0, 2**53)
 
 
 def _tiles(body: Body) -> dict[Tile, int]:

@@ -7,10 +7,11 @@ import time
 import warnings
 from collections.abc import Callable, Sequence
 from concurrent.futures import ThreadPoolExecutor
-from typing import BinaryIO, NamedTuple, TypeVar, cast
+from typing import NamedTuple, TypeVar, cast
 
 from sfstore.commandline import reason_of
 from sfstore.journal import JournalError
+from sfstore.kept import OpenFile
 from sfstore.mapgrid import GridChanged, MapGrid
 from sfstore.program import is_edit
 from sfstore.store import Answer, Editor, ProgramEnded, Refused, Store
@@ -19,7 +20,7 @@ from sfstore.web.batchlog import BatchLog, new_mark
 from sfstore.web.changes import Change, Changes, Target, seen_of
 from sfstore.web.steps import LayerChange, Step, Steps
 
-__all__ = ["Asked", "ChangedMeanwhile", "Edit", "Keeper", "Overtaken", "Snapshot", "Unavailable"]
+__all__ = ["Asked", "ChangedMeanwhile", "Edit", "Keeper", "Overtaken", "Snapshot", "StoreChanged", "Unavailable", "loaded"]
 
 _T = TypeVar("_T")
 
@@ -28,6 +29,7 @@ _EDIT_SECONDS, _LINE_SECONDS = 60.0, 0.005
 # How many versions each millisecond has room for, as a power of 2: no program carries out so many edits. A page
 # counts exactly up to 2**53, which are the milliseconds of some 139 years from 1970.
 _VERSIONS_OF_A_MILLISECOND = 11
+_WRITTEN_OVER = "The store's file was written by another program just now: ask again."
 
 
 class Unavailable(Exception):
@@ -48,6 +50,12 @@ class Overtaken(Exception):
     """Lines are not carried out, as they were made for a version of the store that is not the newest any more."""
 
 
+class StoreChanged(GridChanged):
+    """Another store is open than that for which something was meant. The text says so."""
+
+    _WORDS = "is another store than before"
+
+
 class Asked(NamedTuple):
     """A line that a page wants to be carried out, or a group as one text."""
 
@@ -62,6 +70,8 @@ class Asked(NamedTuple):
     """
     grid: str | None = None
     """The mark of the grid for which the line was made; none where it has nothing to do with one."""
+    store: int | None = None
+    """The number of the store for which it was made; none where that is not said."""
 
 
 class Edit(NamedTuple):
@@ -85,7 +95,7 @@ class Edit(NamedTuple):
 class Snapshot(NamedTuple):
     """What a second program needs to have the content of the store."""
 
-    opened: BinaryIO | None
+    opened: OpenFile | None
     """The file to load, open, or none where a new store has not been saved yet. Whoever has the snapshot closes it."""
     lines: list[str]
     """The edits behind it."""
@@ -94,16 +104,19 @@ class Snapshot(NamedTuple):
     """A number that is another one whenever the file is."""
     grid: MapGrid
     """What its coordinates stand for."""
+    store: int
+    """As `Keeper.last_store` has it."""
 
 
 class _Begun(NamedTuple):
     """A snapshot of which the edits were not read yet."""
 
-    opened: BinaryIO | None
+    opened: OpenFile | None
     read: Callable[[], list[str]]
     version: int
     file: int
     grid: MapGrid
+    store: int
 
 
 class Keeper:
@@ -128,6 +141,8 @@ class Keeper:
         # Above all of an earlier server: what somebody has seen there is none of these, and has to be looked at again.
         self._version = (time.time_ns() // 1_000_000) << _VERSIONS_OF_A_MILLISECOND
         self._file = 0
+        self._store_number = 0
+        self._head: str | None = None
         self._thread = ThreadPoolExecutor(1, "keeper")
         try:
             self.recovered = self._thread.submit(self._opened).result().recovered
@@ -143,7 +158,9 @@ class Keeper:
         """
         return self._do(lambda store: self._limited(store, 1, lambda: self._carry_out(store, asked)))
 
-    def carry_out_all(self, batch: Batch, made_for: int | None = None, grid: str | None = None) -> Done:
+    def carry_out_all(
+        self, batch: Batch, made_for: int | None = None, grid: str | None = None, over: int | None = None
+    ) -> Done:
         """Carries out lines as a whole: all of them, or none. They are one step for undo and redo.
 
         `LineRefused` where one of them is refused, and `ChangedMeanwhile` and `GridChanged` as for a line. `Overtaken`
@@ -154,7 +171,7 @@ class Keeper:
         def job(store: Store) -> Done:
             if made_for not in (None, self._version):
                 raise Overtaken
-            return self._limited(store, count, lambda: self._carry_out_all(store, batch, grid))
+            return self._limited(store, count, lambda: self._carry_out_all(store, batch, grid, over))
 
         return self._do(job)
 
@@ -180,19 +197,32 @@ class Keeper:
         """The grid of the last opening. It may be asked by any thread, and by those whom the keeper calls."""
         return self._grid
 
-    def save(self) -> None:
-        """Saves the store; the history begins anew. `GridChanged` where its grid is another one than when it was opened."""
-        self._do(self._save)
+    @property
+    def last_store(self) -> int:
+        """A number that is another one whenever another store has taken the place of the one that was open. Any thread may ask it."""
+        return self._store_number
+
+    def save(self, told: Callable[[], object] = lambda: None) -> None:
+        """Saves the store; the history begins anew. `GridChanged` where its grid is another one than when it was opened.
+
+        ``told`` is called behind it in the keeper's thread: no edit comes between.
+        """
+
+        def job(store: Store) -> None:
+            self._save(store)
+            told()
+
+        self._do(job)
 
     def snapshot(self) -> Snapshot:
         """The content as it is now. The journal is read in the thread that asks: edits do not wait for it."""
         while True:
             begun = self._do(self._begun)
             try:
-                return Snapshot(begun.opened, begun.read(), begun.version, begun.file, begun.grid)
+                return Snapshot(begun.opened, begun.read(), *begun[2:])
             except (JournalError, OSError) as error:
                 if begun.opened is not None:
-                    begun.opened.close()
+                    begun.opened.file.close()
                 # A save has taken its place.
                 if self.is_at(begun.file):
                     raise Unavailable(f"{reason_of(error)}. Every edit that was answered is in the journal.") from error
@@ -297,6 +327,7 @@ class Keeper:
                 store = Store(self._path, journal=True, program=self._program, warn_far_off=False)
             try:
                 self._steps = self._found_steps(store)
+                self._note_head()
             except BaseException:
                 # Another program has written the file in this very moment.
                 store.close(save=False)
@@ -309,6 +340,13 @@ class Keeper:
             # An edit that was in doubt may be there or not.
             self._changes.forget(self._version)
         return self._store
+
+    def _note_head(self) -> None:
+        """Notes which file the edits go on from. One that was not seen when the store was left is of another store."""
+        head = self._log.head()
+        if self._head not in (None, head):
+            self._store_number += 1
+        self._head = head
 
     def _found_steps(self, store: Store) -> Steps:
         """The steps of the journal. What a crash has left of a batch, or of its undo, is taken back: it was not answered."""
@@ -325,7 +363,7 @@ class Keeper:
         return Steps(lines, found.groups)
 
     def _carry_out(self, store: Store, asked: Asked) -> Answer:
-        self._check_grid(asked.grid)
+        self._check_grid(asked.grid, asked.store)
         self._check_seen(asked)
         self._log.give_up()
         editor, page, line = asked.editor, asked.page, asked.line
@@ -346,8 +384,8 @@ class Keeper:
             raise refused[0]
         return cast(Answer, answers[0])
 
-    def _carry_out_all(self, store: Store, batch: Batch, grid: str | None) -> Done:
-        self._check_grid(grid)
+    def _carry_out_all(self, store: Store, batch: Batch, grid: str | None, over: int | None) -> Done:
+        self._check_grid(grid, over)
         editor, page = batch.editor, batch.page
         for line, seen in zip(batch.lines, batch.seen):
             self._check_seen(Asked(editor, page, line, seen))
@@ -362,9 +400,9 @@ class Keeper:
             if len(lines) > 1:
                 self._log.begin(store.unsaved, editor, lines)
 
-        if len(batch.lines) > 1 and not store.layers():
-            self._try(batch.lines)
         mark = new_mark() if len(batch.lines) > 1 else ""
+        if len(batch.lines) > 1 and (self._steps.to_redo is not None or not store.layers()):
+            self._try(store, editor, batch.lines, mark)
         outcome = carry_out(_speaker(store, editor), batch.lines, begin, mark)
         number = self._version + 1
         asked = (Asked(editor, page, line, None) for line, _ in outcome.accepted)
@@ -378,15 +416,17 @@ class Keeper:
         self._log.end()
         return Done(outcome.answers, self._version)
 
-    def _try(self, lines: Sequence[str]) -> None:
-        """`LineRefused` where a line of a batch would be refused by a store without layers.
+    def _try(self, store: Store, editor: int, lines: Sequence[str], mark: str) -> None:
+        """`LineRefused` where a line of a batch would be refused, of which a part would be carried out before, and taken back.
 
-        It is tried in another program: such a store has no step that changes nothing, which would take the place of what
-        could be redone of a batch that was taken back.
+        Nothing could be redone then that could be before, and a store without layers has no step that changes nothing: a part
+        of the batch could be redone. So it is tried in another program with the same content, by the same editor and with the
+        same mark, which make a line longer.
         """
-        trial = Store(program=self._program)
+        made = store.unsaved_lines
+        trial = loaded(self._program, Snapshot(store._open_file(), made, self._version, self._file, self._grid, self._store_number))
         try:
-            outcome = self._limited(trial, len(lines), lambda: carry_out(trial, lines))
+            outcome = self._limited(trial, len(lines), lambda: carry_out(_speaker(trial, editor), lines, mark=mark))
         finally:
             trial.close(save=False)
         if outcome.refused is not None:
@@ -409,10 +449,11 @@ class Keeper:
             for told in self.follow:
                 told(edits)
 
-    def _check_grid(self, made_for: str | None = None) -> None:
+    def _check_grid(self, made_for: str | None = None, made_over: int | None = None) -> None:
         """`GridChanged` where the store has another grid now than when it was opened, or than what something was made for.
 
         Where it has, the store is opened anew by the next job, with that grid, and all pages look at it again.
+        `StoreChanged` where something was made over another store than the one that is open.
         """
         try:
             self._grid.check()
@@ -421,6 +462,8 @@ class Keeper:
             raise
         if made_for not in (None, self._grid.mark):
             raise GridChanged(self._path)
+        if made_over not in (None, self._store_number):
+            raise StoreChanged(self._path)
 
     def _check_seen(self, asked: Asked) -> None:
         """`ChangedMeanwhile` where a line edits what its page has not seen as it is."""
@@ -443,10 +486,11 @@ class Keeper:
                 self._steps = Steps()
                 self._version += 1
                 self._file += 1
+                self._head = self._log.head()
 
     def _begun(self, store: Store) -> _Begun:
         read = store._reading()
-        return _Begun(store._open_file(), read, self._version, self._file, self._grid)
+        return _Begun(store._open_file(), read, self._version, self._file, self._grid, self._store_number)
 
     def _close(self) -> int:
         if self._store is None:
@@ -455,6 +499,28 @@ class Keeper:
         unsaved = store.unsaved
         store.close(save=False)
         return unsaved
+
+
+def loaded(program: str, snapshot: Snapshot) -> Store:
+    """A program with the content of a snapshot. `Unavailable` where somebody has written over its file since it was looked at."""
+    opened = snapshot.opened
+    if opened is None:
+        return _replayed(Store(program=program, warn_far_off=False), snapshot)
+    with opened.file as file:
+        # The open file, since another one may stand under its name by now.
+        store = Store(program=program, load=file.fileno(), warn_far_off=False)
+        if not opened.is_as_seen():
+            store.close(save=False)
+            raise Unavailable(_WRITTEN_OVER)
+    return _replayed(store, snapshot)
+
+
+def _replayed(store: Store, snapshot: Snapshot) -> Store:
+    """A program with the edits behind the file of a snapshot. `Unavailable` where they do not fit what it has loaded."""
+    if any(isinstance(answer, Refused) for answer in store.run_all(snapshot.lines)):
+        store.close(save=False)
+        raise Unavailable(_WRITTEN_OVER)
+    return store
 
 
 def _speaker(store: Store, editor: int) -> Editor:

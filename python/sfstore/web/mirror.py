@@ -7,15 +7,14 @@ takes too long ends it, and not the store; the next question begins it anew.
 from __future__ import annotations
 
 import contextlib
-import os
 import threading
 from collections.abc import Callable, Iterator, Sequence
 from concurrent.futures import ThreadPoolExecutor
-from typing import BinaryIO, Protocol, TypeVar
+from typing import Protocol, TypeVar
 
 from sfstore.mapgrid import MapGrid
 from sfstore.store import ProgramEnded, Refused, Store
-from sfstore.web.keeper import Edit, Keeper, Snapshot, Unavailable
+from sfstore.web.keeper import Edit, Keeper, Unavailable, loaded
 
 __all__ = ["Mirror", "Watcher"]
 
@@ -51,7 +50,7 @@ class Mirror:
     """A program that is only asked, and the thread that asks it.
 
     Of each editor one question waits for it at a time: those of others wait for no more than that.
-    `version`, `grid`, and what watches it, may be used by questions alone, which have this thread.
+    `version`, `grid`, `number`, and what watches it, may be used by questions alone, which have this thread.
     """
 
     def __init__(self, keeper: Keeper, program: str, seconds: float, watcher: Watcher | None = None) -> None:
@@ -60,7 +59,7 @@ class Mirror:
         self._seconds = seconds
         self._store: Store | None = None
         self._version = 0
-        self._grid = keeper.last_grid
+        self._grid, self._number = keeper.last_grid, keeper.last_store
         self._closed = False
         self._watcher = watcher
         self._thread = ThreadPoolExecutor(1, "mirror")
@@ -78,6 +77,11 @@ class Mirror:
     def grid(self) -> MapGrid:
         """What the coordinates of that content stand for."""
         return self._grid
+
+    @property
+    def number(self) -> int:
+        """The number of the store whose content that is, as `Keeper.last_store` has it."""
+        return self._number
 
     def ask(self, editor: int, question: Callable[[Store], _T]) -> _T:
         """The answer of an editor's question. `Unavailable` where it takes too long."""
@@ -162,10 +166,10 @@ class Mirror:
         while self._store is None:
             snapshot = self._keeper.snapshot()
             try:
-                self._store = _loaded(self._program, snapshot)
+                self._store = loaded(self._program, snapshot)
             except ProgramEnded as ended:
                 raise Unavailable(f"No second program can be had: {ended}.") from ended
-            self._version, self._grid = snapshot.version, snapshot.grid
+            self._version, self._grid, self._number = snapshot.version, snapshot.grid, snapshot.store
             # The file may have been saved anew before it was opened.
             if not self._keeper.is_at(snapshot.file):
                 self._drop()
@@ -188,25 +192,3 @@ def _place(places: threading.BoundedSemaphore, words: str) -> Iterator[None]:
         yield
     finally:
         places.release()
-
-
-def _loaded(program: str, snapshot: Snapshot) -> Store:
-    """A program with the content of a snapshot. `Unavailable` where somebody writes over its file meanwhile."""
-    with snapshot.opened or contextlib.nullcontext() as file:
-        if file is None:
-            store = Store(program=program, warn_far_off=False)
-        else:
-            # The open file, since another one may stand under its name by now.
-            before = _written(file)
-            store = Store(program=program, load=file.fileno(), warn_far_off=False)
-            if _written(file) != before:
-                store.close(save=False)
-                raise Unavailable("The store's file was written by another program just now: ask again.")
-    store.run_all(snapshot.lines)
-    return store
-
-
-def _written(file: BinaryIO) -> tuple[int, int]:
-    """What is another one after any writing to an open file."""
-    found = os.fstat(file.fileno())
-    return found.st_size, found.st_mtime_ns

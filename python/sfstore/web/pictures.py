@@ -170,7 +170,7 @@ def _traced(store: Editor, layer: str, features: list[int], tile: Tile) -> bytes
         return b""
     cells = raster.blank()
     left, bottom = tile.x * tile.size, tile.y * tile.size
-    for digits in hexes_of(store, layer, features):
+    for digits in hexes_of(store, [(layer, feature) for feature in features]):
         raster.draw(cells, read_wkb(bytes.fromhex(digits)), left, bottom, 1 << tile.level)
     return bytes(cells)
 

@@ -12,9 +12,9 @@ from typing import Any
 from sfstore.extents import Box, rectangle
 from sfstore.geometry import read_wkb
 from sfstore.language import POINTS_MAX
-from sfstore.store import Editor, Refused
+from sfstore.store import Answer, Editor, Refused
 
-__all__ = ["ELEMENTS_MAX", "hexes_of", "shapes_of", "window_of"]
+__all__ = ["ELEMENTS_MAX", "hexes_of", "rows_asked", "shapes_of", "window_of"]
 
 ELEMENTS_MAX = 20_000
 """How many features a page draws at most."""
@@ -35,26 +35,37 @@ def window_of(store: Editor, layers: Sequence[str], box: Box, inner: Box | None 
     Where there are too many, the layers with the fewest are drawn as long as there is room. Of the others it is counted
     too what they have in a part of the box, which a page sees of it.
     """
-    found = {layer: store.query(layer, "intersects", rectangle(box)) for layer in layers}
-    room, digits = ELEMENTS_MAX, _DIGITS_MAX
-    drawn: dict[str, list[Any]] = {}
+    found = _in_box(store, layers, box)
+    room = ELEMENTS_MAX
+    wanted: list[tuple[str, int]] = []
     for layer in sorted(layers, key=lambda name: len(found[name])):
-        if len(found[layer]) > room:
+        room -= len(found[layer])
+        if room < 0:
             break
-        hexes = _hexes(store, layer, found[layer], digits)
-        if hexes is None:
-            break
-        room -= len(hexes)
-        digits -= sum(map(len, hexes))
-        drawn[layer] = list(map(_feature, found[layer], hexes))
+        wanted += ((layer, feature) for feature in found[layer])
+    drawn = _drawn(store, wanted, found)
     answer: list[dict[str, Any]] = [
         {"name": layer, "count": len(found[layer]), "features": drawn.get(layer)} for layer in layers
     ]
     if inner is not None:
-        for told in answer:
-            if told["features"] is None:
-                told["inside"] = len(store.query(told["name"], "intersects", rectangle(inner)))
+        counted = [told for told in answer if told["features"] is None]
+        inside = _in_box(store, [told["name"] for told in counted], inner)
+        for told in counted:
+            told["inside"] = len(inside[told["name"]])
     return answer
+
+
+def _in_box(store: Editor, layers: Sequence[str], box: Box) -> dict[str, list[int]]:
+    """The features of layers that meet a box, asked in one go: there may be very many layers."""
+    answers = store.run_all(f"query {layer} intersects {rectangle(box)}" for layer in layers)
+    return {layer: list(map(int, rows_asked(answer))) for layer, answer in zip(layers, answers)}
+
+
+def rows_asked(answer: Answer | Refused) -> list[str]:
+    """The rows of an answer. `Refused` where it is none."""
+    if isinstance(answer, list):
+        return answer
+    raise answer if isinstance(answer, Refused) else TypeError(answer)
 
 
 def shapes_of(store: Editor, layer: str, features: Sequence[int]) -> list[list[Any]]:
@@ -67,8 +78,8 @@ def shapes_of(store: Editor, layer: str, features: Sequence[int]) -> list[list[A
     ]
 
 
-def hexes_of(store: Editor, layer: str, features: Sequence[int]) -> Iterator[str]:
-    """The geometries of features in hexadecimal, as many in memory at a time as those before have room for.
+def hexes_of(store: Editor, features: Sequence[tuple[str, int]]) -> Iterator[str]:
+    """The geometries of features in hexadecimal, each of a layer, as many in memory at a time as those before have room for.
 
     `Refused` where one is not there.
     """
@@ -76,7 +87,7 @@ def hexes_of(store: Editor, layer: str, features: Sequence[int]) -> Iterator[str
     while begin < len(features):
         part = features[begin : begin + count]
         longest = 1
-        for answer in store.run_all(f"hex {layer} {feature}" for feature in part):
+        for answer in store.run_all(f"hex {layer} {feature}" for layer, feature in part):
             if isinstance(answer, Refused):
                 raise answer
             longest = max(longest, len(str(answer)))
@@ -85,15 +96,18 @@ def hexes_of(store: Editor, layer: str, features: Sequence[int]) -> Iterator[str
         count = min(2 * count, _PART_MAX, max(_FIRST_PART, _DIGITS_MAX // longest))
 
 
-def _hexes(store: Editor, layer: str, features: list[int], most: int) -> list[str] | None:
-    """The geometries of features in hexadecimal, or none where they have too many digits."""
-    hexes: list[str] = []
-    for digits in hexes_of(store, layer, features):
-        hexes.append(digits)
-        most -= len(digits)
-        if most < 0:
-            return None
-    return hexes
+def _drawn(store: Editor, wanted: Sequence[tuple[str, int]], found: dict[str, list[int]]) -> dict[str, list[Any]]:
+    """The features of layers as a page gets them: whole layers, one behind the other, as long as their digits can be sent."""
+    room = _DIGITS_MAX
+    drawn: dict[str, list[Any]] = {}
+    for (layer, feature), digits in zip(wanted, hexes_of(store, wanted)):
+        room -= len(digits)
+        if room < 0:
+            break
+        drawn.setdefault(layer, []).append(_feature(feature, digits))
+    # One that has come in part is not drawn; one without features in the box is.
+    whole = {layer: features for layer, features in drawn.items() if len(features) == len(found[layer])}
+    return {**{layer: [] for layer, features in found.items() if not features}, **whole}
 
 
 def _feature(feature: int, digits: str) -> list[Any]:

@@ -203,6 +203,14 @@ class Added(AddingCase):
         self.assertEqual(self.add()[0], 3)
         self.assertEqual(sidecar.read(str(self.store)), replace(before, digests=sidecar.read(str(self.store)).digests))
 
+    def test_what_is_added_far_off_the_map_is_told(self):
+        self.brought(wells=[(1, "POINT (15 5)"), (2, "POINT (1000000 5)"), (3, "POINT (1000001 5)")], Flurstücke=[(2, FAR)])
+        status, out, err = self.add()
+        self.assertEqual((status, err), (0, ""))
+        told = "  2 features lie far off the map, as at (510000.00 5600000.05): is it meant? `undo` takes all that was added back\n"
+        self.assertIn(told, out)
+        self.assertEqual(out.count("far off"), 1)
+
     def test_nothing_to_add(self):
         self.brought(wells=[])
         status, out, _ = self.add()

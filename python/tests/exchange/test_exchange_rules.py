@@ -108,6 +108,18 @@ class OutAndIn(RuledCase):
         self.assertEqual(bring_in(self.target, again)[0], 0)
         self.assertEqual(self.rules(again), [APART])
 
+    def test_rules_by_distances_on_the_finest_grids(self):
+        """A thousandth of a step has more than 30 digits behind the point."""
+        rules = [Rule("apart", "never", "wells", "near 0.001", "wells"), Rule("served", "each", "wells", "near 4294967295.875", "wells")]
+        with Store(PROGRAM, save=self.store) as store:
+            store.run_all(["layer add wells point", "add wells POINT (5 5)", "add wells POINT (7 5)"])
+            for rule in rules:
+                store.add_rule(*rule)
+        grid, map_, said, again = ["--grid", "0", "0", "1e-28"], *(self.folder / name for name in ("map.geojson", "said.rules", "again.sfs"))
+        self.assertEqual(give_back(self.store, map_, *grid, "--rules", said)[0], 0)
+        status, _, err = bring_in(map_, again, *grid, "--rules", said)
+        self.assertEqual((status, err, [rule.ask for rule in self.rules(again)]), (0, "", [rule.ask for rule in rules]))
+
     def test_rules_take_the_place_of_no_file_of_the_map(self):
         self.made()
         for name in ("back.shp", "back.shx", "back.dbf", "back.prj", "back.cpg"):
@@ -384,6 +396,21 @@ class Files(TestCase):
             wrong = self.data[:place] + bytes([byte]) + self.data[place + 1 :]
             with self.assertRaises(ValueError):
                 storefile.read_with_rules(wrong)
+
+    def test_what_is_wrong_with_a_rule_is_said_of_rules(self):
+        name = self.data.index(b"\x05apart")
+        form = self.data.index(b"\x06served") + 7
+        distance = form + 1 + len(b"\x05wells")
+        cases = [
+            (name + 6, b"\x09", "form of a rule: rules of that form are not known: a later version may have written the file (34)"),
+            (name + 15, b"\x09", "what a rule asks: that is no predicate and no pattern (32)"),
+            (distance, b"\xff" * 8, "distance of a rule: the distance is too great (34)"),
+        ]
+        for place, put, said in cases:
+            self.path.write_bytes(self.data[:place] + put + self.data[place + len(put) :])
+            with self.assertRaises(ProgramEnded) as caught:
+                Store(PROGRAM, load=self.path)
+            self.assertEqual(storefile.fault_words(str(self.path), caught.exception.last_line), f"place {place}, {said}")
 
     def test_a_distance_is_wrong_where_the_program_says_so(self):
         form = self.data.index(b"\x06served") + 7

@@ -325,6 +325,21 @@ class Sets(SetCase):
         self.assertEqual(self.shown_features(target)[0][0], "POINT (3 4)")
         self.assertEqual(self.hidden(), [])
 
+    def test_nothing_takes_the_place_of_what_is_kept_beside_another_store(self):
+        source, other = self.made("town.sfs", WELLS), self.made("other.sfs", OTHERS)
+        for end in (".lock", ".journal", ".json", ".styles", ".socket"):
+            for words in (["--format", "GeoJSON", str(source), f"{other}{end}"], ["--rules", f"{other}{end}", str(source), str(self.folder / "out.gpkg")]):
+                status, _, err = give_back(*words, *PLAIN, "--overwrite")
+                self.assertEqual((status, "is kept beside" in err), (3, True), (words, err))
+        map_ = self.folder / "map.geojson"
+        self.assertEqual(give_back(str(source), str(map_), *PLAIN)[0], 0)
+        for end in (".lock", ".journal", ".json", ".styles", ".socket"):
+            status, _, err = bring_in(str(map_), f"{other}{end}", "--grid", "0", "0", "1")
+            self.assertEqual((status, "is kept beside" in err), (3, True), err)
+            status, _, err = bring_in(str(map_), str(self.folder / "new.sfs"), "--grid", "0", "0", "1", "--overwrite", "--report", f"{other}{end}")
+            self.assertEqual((status in (1, 3), "is kept beside" in err), (True, True), err)
+        self.assertEqual(parts(self.folder, "other"), ["other.sfs"])
+
     def test_a_file_that_comes_meanwhile_stays(self):
         store = self.made("t.sfs", WELLS)
         sync = placing._sync_all

@@ -9,6 +9,7 @@ import stat
 import subprocess
 import sys
 import unittest
+from pathlib import Path
 from unittest import mock
 
 from programs import path_of as program_path
@@ -234,6 +235,31 @@ class JournalThreats(TestCase):
                 with self.assertRaisesRegex(JournalError, "no copy takes its place"):
                     store.copy(name)
         self.assertEqual(len(self.points()), 2)
+
+    def test_no_store_takes_the_place_of_what_is_kept_beside_another_one(self):
+        """Be the other one open, saved or new, and whatever its name is."""
+        other, new = self.folder / "other.sfs", self.folder / "map.of.the.town"
+        with Store(save=other, program=PROGRAM) as theirs:
+            theirs.add_layer("theirs")
+        endings = (".lock", ".journal", ".journal.lock", ".json", ".json.next", ".editors", ".batches", ".styles", ".qgis", ".socket")
+        open_one = Store(new, journal=True, program=PROGRAM)
+        self.addCleanup(open_one.close, save=False)
+        with self.opened() as store:
+            for end in endings:
+                for path in (f"{self.path}{end}", f"{other}{end}", f"{new}{end}"):
+                    was = os.path.exists(path) and Path(path).read_bytes()
+                    with self.assertRaisesRegex(JournalError, "is one of the files of .*: no copy takes its place", msg=path):
+                        store.copy(path)
+                    for opening in (lambda: Store(path, journal=True, program=PROGRAM), lambda: Store(save=path, program=PROGRAM)):
+                        with self.assertRaisesRegex(OSError, "is kept beside .*, and no store takes its place", msg=path):
+                            opening()
+                    self.assertEqual(os.path.exists(path) and Path(path).read_bytes(), was)
+            for name in (".other.sfs.sfstore-store", ".other.sfs.sfstore-journal", ".other.sfs.sfstore-0123456789ab"):
+                with self.assertRaisesRegex(JournalError, "no copy takes its place"):
+                    store.copy(self.folder / name)
+            # Names of nobody's.
+            for name in ("notes.json", "the.lock", ".styles"):
+                store.copy(self.folder / name)
 
     def test_no_edit_goes_into_a_journal_that_no_file_goes_with(self):
         other = self.folder / "other.sfs"

@@ -6,10 +6,12 @@ import random
 import struct
 import unittest
 import warnings
+from unittest import mock
 
 from support import PROGRAM, TestCase
 
 from sfstore import FarOffTheMap, Store, files, sidecar
+from sfstore.extents import extent_of
 from sfstore.language import GRID_MAX, GRID_MIN
 from sfstore.surroundings import Surroundings
 
@@ -176,6 +178,38 @@ class Warned(TestCase):
                 group.add("w", "POINT (900000 0)")
 
         self.assertEqual([words for _, words, _ in self.told(grouped)], ["(900000 0) lies far off the map, in steps of its grid"])
+
+    def test_of_very_many_layers_the_first_one_is_looked_at_with_few_questions(self):
+        layers = 3_000
+        with Store(PROGRAM, save=self.path) as store:
+            store.run_all(line for k in range(layers) for line in (f"layer add l{k} point", f"add l{k} POINT ({k} {-k})"))
+        self.bring_grid()
+        with Store(self.path, journal=True, program=PROGRAM) as store:
+            counts, whole = [], store._program.exchange
+            with mock.patch.object(store._program, "exchange", lambda lines: counts.append(len(lines)) or whole(lines)):
+                store.add("l7", "POINT (5 5)")
+            # All layers at a time, and a few lines of each.
+            self.assertLess(len(counts), 100)
+            self.assertLess(sum(counts), 10 * layers)
+            self.assertEqual(extent_of(store), (0, 1 - layers, layers - 1, 5))
+
+
+class Extents(unittest.TestCase):
+    def test_they_are_those_of_all_features(self):
+        draw = random.Random(7)
+        for _ in range(20):
+            with Store(PROGRAM) as store:
+                points = []
+                for layer in range(draw.choice((0, 1, 3, 200))):
+                    store.add_layer(f"l{layer}")
+                    reach = draw.choice((1, 1_000, GRID_MAX))
+                    made = [(draw.randint(-reach, reach), draw.randint(-reach, reach)) for _ in range(draw.choice((0, 1, 5, 40)))]
+                    store.run_all(f"add l{layer} POINT ({x} {y})" for x, y in made)
+                    gone = {k for k in range(len(made)) if draw.random() < 0.5}
+                    store.run_all(f"delete l{layer} {k + 1}" for k in gone)
+                    points += [point for k, point in enumerate(made) if k not in gone]
+                box = (*map(min, zip(*points)), *map(max, zip(*points))) if points else None
+                self.assertEqual(extent_of(store), box)
 
 
 if __name__ == "__main__":

@@ -15,7 +15,7 @@ from functools import partial
 from support import PROGRAM
 from test_page import PageCase
 
-from sfstore import Store
+from sfstore import Store, files, sidecar
 from sfstore.values import spelled
 from sfstore.web.client import Client
 
@@ -347,6 +347,143 @@ class Meanwhile(PageCase):
         other.type("undo", "ok")
         one.here().until(lambda: one.drawn("wells") == 4)
         self.assertEqual([line for line, _ in one.log()].count("add wells POINT (1290 450)"), 1)
+
+
+
+class OtherStore(PageCase):
+    """What was begun over a store, or a grid of it, that is another one then."""
+
+    GIVEN_UP = "Another store, or another grid of it, is behind this page now. What was begun before is given up: look again."
+
+    def placed(self, step, origin="500000"):
+        """Has the side-car say this grid."""
+        grid = sidecar.Sidecar((origin, "0", step), sidecar.Crs("EPSG", "25832", ""), [])
+        sidecar.write(str(self.path), grid, [files.digest(str(self.path))])
+
+    def opened(self):
+        page = self.open("Ben")
+        self.ann = self.serving.log_in("Ann")
+        return page
+
+    def lines(self):
+        return [row["line"] for row in self.serving.call("/history", before=None, count=100)["entries"]]
+
+    def test_what_is_half_drawn_is_given_up_on_another_grid(self):
+        self.placed("1")
+        page = self.opened()
+        page.pick("#target", "streets")
+        page.tool("line")
+        page.click((360, 0))
+        page.click((540, 0))
+        page.until(lambda: page.one("#overlay .sketch").get_attribute("d"))
+        self.placed("0.1")
+        self.ann.posted("undo", 0)
+        self.given_up(page)
+        self.assertIn(("line 500360 0, 500540 0", self.GIVEN_UP), page.log())
+        self.assertFalse(page.one("#overlay .sketch").get_attribute("d"))
+        page.press(page.keys.ENTER)
+        # The whole map is shown, with its own coordinates; what is drawn from now on has its place there.
+        page.until(lambda: page.drawn("parcels") == 200)
+        page.click((360, 0))
+        page.click((540, 0))
+        page.press(page.keys.ENTER)
+        page.until(lambda: page.last().startswith("add streets"))
+        page.logged("add streets LINESTRING (500036.0 0.0, 500054.0 0.0)", "ok 8")
+        self.assertEqual(self.lines(), [page.last()])
+
+    def given_up(self, page):
+        page.until(lambda: page.text("#refusal h2") == self.GIVEN_UP and not page.one("#refusal").get_property("hidden"))
+
+    def test_a_corner_that_is_moved_is_given_up_on_another_grid(self):
+        self.placed("1")
+        page = self.opened()
+        page.press("k")
+        page.click((360, 0))
+        page.until(lambda: page.one("#overlay .sketch").get_attribute("d"))
+        self.placed("0.1")
+        self.ann.posted("undo", 0)
+        self.given_up(page)
+        page.until(lambda: page.drawn("parcels") == 200)
+        self.assertIn(("node 500360 0", self.GIVEN_UP), page.log())
+        # A click is the first one again.
+        page.click((360, 0))
+        page.press(page.keys.ESCAPE)
+        self.assertEqual(self.lines(), [])
+
+    def test_a_line_that_was_typed_for_another_grid_is_not_done(self):
+        self.placed("1")
+        page = self.opened()
+        page.one("#line-text").send_keys("add wells POINT (500100 100)")
+        self.placed("0.1", "500050")
+        self.ann.posted("undo", 0)
+        page.until(lambda: page.text("#status").startswith("Another store") or page.text("#system"))
+        page.until(lambda: self.serving.call("/map")["grid"]["step"] == "0.1")
+        page.until(lambda: page.script("return window.performance.getEntriesByName('window').length") > 1)
+        page.one("#line-text").send_keys(page.keys.ENTER)
+        page.until(lambda: page.last() == "add wells POINT (500100 100)")
+        self.assertIn("look at the map again", page.log()[-1][1])
+        self.assertEqual(self.lines(), [])
+        # Typed again it is for the map that is shown.
+        page.type("add wells POINT (500100 100)", "ok 5")
+
+    def other_store(self):
+        """Has another store in the place of the file, and every program that had the one before ended."""
+        for child in self.programs(self.serving):
+            os.kill(child, signal.SIGKILL)
+        other = self.folder / "other.sfs"
+        self.make(b"layer add parcels polygon\nadd parcels POLYGON ((180 0, 360 0, 360 300, 180 300, 180 0))\n" * 2, other)
+        self.ann.posted("undo", 0)
+        os.replace(other, self.path)
+        self.path.with_name("town.sfs.journal").unlink(missing_ok=True)
+
+    def test_what_is_begun_over_another_store_of_the_same_grid(self):
+        page = self.opened()
+        page.choose((270, 150), "parcels 2, a polygon")
+        page.pick("#target", "parcels")
+        page.tool("polygon")
+        for point in ((360, 0), (540, 0), (540, 300)):
+            page.click(point)
+        page.one("#value-owner").send_keys("Ito")
+        self.other_store()
+        self.given_up(page)
+        log = page.log()
+        self.assertIn(("polygon 360 0, 540 0, 540 300", self.GIVEN_UP), log)
+        self.assertIn(("set parcels 2 owner 'O''HaraIto'", self.GIVEN_UP), log)
+        self.assertEqual([words for line, words in log if line.startswith("set")], [self.GIVEN_UP])
+        self.assertEqual(page.text("#chosen-title"), "Nothing selected")
+        page.press(page.keys.ENTER)
+        page.until(lambda: page.drawn() == 2)
+        self.assertEqual(self.lines(), [])
+
+    def test_what_was_made_over_another_store_is_not_done(self):
+        serving = self.serving = self.serve()
+        self.ann = serving.log_in("Ann")
+        before = serving.call("/map")["store"]
+        body = {"page": "p", "line": "add parcels POLYGON ((0 0, 9 0, 9 9, 0 0))", "seen": 0}
+        self.other_store()
+        self.assertNotEqual(serving.call("/map")["store"], before)
+        status, answer = serving.posted("/line", self.ann.key, **body, store=before)
+        self.assertEqual((status, answer["error"]), (409, "town.sfs is another store than before: look at the map again. Nothing was done."))
+        body["line"] = "split parcels 1 LINESTRING (270 -10, 270 400)"
+        self.assertEqual(serving.posted("/line", self.ann.key, **body, store=before)[0], 409)
+        self.assertEqual(serving.call("/history", before=None, count=9)["entries"], [])
+
+    def test_a_store_that_is_opened_again_or_saved_is_the_same(self):
+        page = self.opened()
+        page.pick("#target", "streets")
+        page.tool("line")
+        page.click((360, 0))
+        for line in ("set wells 1 depth 5", "save"):
+            self.ann.line(line)
+        for child in self.programs(self.serving):
+            os.kill(child, signal.SIGKILL)
+        self.assertEqual(self.ann.posted("undo", 0)[0], 503)
+        self.ann.line("set wells 1 depth 6")
+        page.until(lambda: ("set wells 1 depth 6", "ok") in page.log())
+        page.click((540, 0))
+        page.press(page.keys.ENTER)
+        page.until(lambda: page.last().startswith("add streets"))
+        page.logged("add streets LINESTRING (360 0, 540 0)", "ok 8")
 
 
 class Coming(PageCase):

@@ -348,5 +348,29 @@ class Aids(PageCase):
             self.assertLessEqual(page.script(WIDE), 0, tab)
 
 
+class ManyLayers(PageCase):
+    """Far more layers than anybody makes: nothing takes the square of their count, or a question of its own for each."""
+
+    SECONDS = 900
+    LAYERS = 30_000
+
+    def test_the_page_opens(self):
+        # On a machine where all else takes the processors its list takes longer than a script may.
+        self.driver.set_script_timeout(300)
+        self.addCleanup(self.driver.set_script_timeout, 30)
+        lines = (f"layer add l{k} point\ncolumn add l{k} name text\nadd l{k} POINT ({k % 200 * 10} {k // 200 * 10})\n" for k in range(self.LAYERS))
+        self.make("".join(lines).encode())
+        serving = self.serve("--seconds=120")
+        self.assertEqual(serving.call("/map", extent=True)["extent"], [0, 0, 1990, 1490])
+        page = self.page(serving, known=("l1-1", (10, 0)), is_there=lambda page: True)
+        page.until(page.drawn, 400)
+        self.assertEqual(page.script("return document.querySelectorAll('#layers li').length"), self.LAYERS)
+        status = page.text("#status")
+        self.assertTrue(status.startswith("30,000 features in the window, 20,000 drawn one by one."), status)
+        self.assertIn("So do 9,995 layers more.", status)
+        page.type("add l7 POINT (35 35)", "ok 2")
+        page.until(lambda: page.drawn("l7-2"), 100)
+
+
 if __name__ == "__main__":
     unittest.main()

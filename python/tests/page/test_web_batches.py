@@ -24,8 +24,7 @@ from sfstore.web.batches import Batch, LineRefused, batch_of, carry_out, is_grou
 from sfstore.web.batchlog import BatchLog, new_mark
 from sfstore.web.changed import Changed, changed_by, merged
 from sfstore.web.changes import Target
-from sfstore.web.keeper import Asked, Keeper, Unavailable
-from sfstore.web.mirror import _loaded
+from sfstore.web.keeper import Asked, Keeper, Unavailable, loaded
 from sfstore.web.rows import ROWS_MAX, rows_of
 from sfstore.web.steps import Step, Steps
 
@@ -172,6 +171,20 @@ class Whole(BatchCase):
             self.ann.line("redo")
             self.assertEqual(self.shown(), before)
 
+    def test_a_batch_that_is_refused_leaves_what_can_be_redone(self):
+        self.ann.answer("set p 1 number 7")
+        self.ann.answer("undo")
+        before, told = self.shown(), self.serving.call("/map")
+        self.assertEqual(self.refused(self.ben, "column add p more int", "delete p 1", "set p 2 nix 1")[1], 2)
+        self.assertEqual((self.shown(), self.serving.call("/map")["redo"]), (before, told["redo"]))
+        self.assertEqual(self.serving.call("/map")["version"], told["version"])
+        self.assertEqual(self.ann.answer("redo"), "ok")
+        self.assertNotEqual(self.shown(), before)
+        # One that is carried out leaves nothing, as any edit.
+        self.ann.answer("undo")
+        self.assertEqual(self.done(self.ben, "column add p more int", "set p 1 more 5"), ["ok", "ok"])
+        self.assertIsNone(self.serving.call("/map")["redo"])
+
     def test_of_a_store_without_layers_nothing_of_what_was_refused_can_be_redone(self):
         for name in ("p", "w"):
             self.ann.answer(f"layer drop {name}")
@@ -189,6 +202,19 @@ class Whole(BatchCase):
         self.assertEqual(self.refused(self.ann, "layer add a point", "layer add a point")[1], 1)
         self.assertEqual(self.ann.answer("redo"), "ok")
         self.assertEqual([layer["name"] for layer in self.serving.call("/map")["layers"]], ["z"])
+
+    def test_of_a_store_without_layers_a_line_that_is_too_long_for_its_editor_alone_leaves_nothing_to_redo(self):
+        """By itself the line is as long as one may be. Its editor stands before it, and a mark of the batch behind it."""
+        for layer in ("p", "w"):
+            self.ann.answer(f"layer drop {layer}")
+        self.ann.line("save")
+        most = 4_194_304
+        for length in (most, most - 3, most - 5):
+            line = "add a POINT (1 1)"
+            told = self.refused(self.ann, "layer add a point", line + " " * (length - len(line)))
+            self.assertEqual(told, (33, 1))
+            self.assertEqual(self.ann.refused("redo")["name"], "NothingToRedo")
+        self.assertEqual(self.ann.line("layers")["rows"], [])
 
     def test_a_geometry_of_a_layer_that_the_batch_adds(self):
         self.assertEqual(self.done(self.ann, "layer add q polygon", f"add q {SQUARE}"), ["ok", "ok 1"])
@@ -723,7 +749,7 @@ class Snapshots(TestCase):
     def snapshot(self):
         """A snapshot, whose file is closed with the test."""
         snapshot = self.keeper.snapshot()
-        self.addCleanup(snapshot.opened.close)
+        self.addCleanup(snapshot.opened.file.close)
         return snapshot
 
     def other(self):
@@ -738,7 +764,7 @@ class Snapshots(TestCase):
         self.edit("set p 1 number 1")
         snapshot = self.snapshot()
         os.rename(self.other(), self.path)
-        with _loaded(PROGRAM, snapshot) as store:
+        with loaded(PROGRAM, snapshot) as store:
             self.assertEqual([layer.name for layer in store.layers()], ["p", "w"])
             self.assertEqual(store.get("p", 1)[0].values["number"], 1)
         with self.assertRaisesRegex(Unavailable, "was changed or taken away by another program"):
@@ -753,7 +779,19 @@ class Snapshots(TestCase):
             real(store, *words, **named)
 
         with mock.patch.object(Store, "__init__", writing), self.assertRaisesRegex(Unavailable, "written by another program just now"):
-            _loaded(PROGRAM, snapshot)
+            loaded(PROGRAM, snapshot)
+
+    def test_a_file_that_was_written_over_before_it_is_loaded_is_told(self):
+        """While the journal was read: what is loaded would be of two moments."""
+        snapshot = self.snapshot()
+        self.path.write_bytes(self.other().read_bytes())
+        with self.assertRaisesRegex(Unavailable, "written by another program just now"):
+            loaded(PROGRAM, snapshot)
+
+    def test_edits_that_do_not_fit_the_file_are_told(self):
+        snapshot = self.snapshot()._replace(lines=["set p 99 number 1"])
+        with self.assertRaisesRegex(Unavailable, "written by another program just now"):
+            loaded(PROGRAM, snapshot)
 
     def begin(self):
         """Has a snapshot begun, of which the journal is being read."""

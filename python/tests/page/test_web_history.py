@@ -2,14 +2,18 @@
 
 from __future__ import annotations
 
+import json
 import signal
 import time
 import unittest
+from unittest import mock
 
+from support import PROGRAM
 from web_support import WebCase
 
-from sfstore.web import history
+from sfstore.web import calls, history
 from sfstore.web.history import History
+from sfstore.web.keeper import Asked, Keeper
 
 
 class Calls(WebCase):
@@ -96,6 +100,32 @@ class Calls(WebCase):
         self.ann.refused("set wells 99 depth 1")
         self.ann.line("show wells")
         self.assertEqual(self.entries(), [])
+
+
+class Saves(WebCase):
+    def test_what_is_done_right_behind_a_save_is_told_behind_it(self):
+        """Else a page would show nothing to undo, and the history the save as the last that was done."""
+        self.make_town()
+        keeper = Keeper(str(self.path), PROGRAM)
+        self.addCleanup(keeper.close)
+        served = calls.Calls(str(self.path), keeper, PROGRAM, 60.0)
+        self.addCleanup(served.close)
+        keeper.carry_out(Asked(1, "page", "set wells 1 depth 5", None))
+        events, save = served.events.told(60.0), keeper.save
+        self.addCleanup(events.close)
+        next(events)
+
+        def overtaken(*words):
+            save(*words)
+            keeper.carry_out(Asked(2, "other", "add wells POINT (1 1)", None))
+
+        with mock.patch.object(keeper, "save", overtaken):
+            served.by_path["/line"](1, {"page": "page", "line": "save"})
+        told = [json.loads(next(events)) for _ in range(2)]
+        self.assertEqual(["saved" in event for event in told], [True, False])
+        self.assertEqual(told[1]["undo"]["line"], "add wells POINT (1 1)")
+        lines = [entry["line"] for entry in served.by_path["/history"](1, {"before": None, "count": 9})["entries"]]
+        self.assertEqual(lines, ["add wells POINT (1 1)", "save", "set wells 1 depth 5"])
 
 
 class Kept(unittest.TestCase):

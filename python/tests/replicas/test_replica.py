@@ -338,6 +338,21 @@ class Writing(ReplicaCase):
         self.assert_told("a question took longer than 0.5 seconds: match w w")
         self.assertEqual(ann.run("add w POINT (1 1)"), "ok 2")
 
+    def test_nothing_waits_for_a_question_that_was_interrupted_as_it_began(self):
+        """Else the process would end when the question might have taken its time."""
+        [ann] = self.town("ann", question_seconds=600.0)
+        start = threading.Timer.start
+
+        def interrupted(timer):
+            start(timer)
+            raise KeyboardInterrupt
+
+        with unittest.mock.patch.object(threading.Timer, "start", interrupted), self.assertRaises(KeyboardInterrupt):
+            ann.run("show w")
+        left = [thread for thread in threading.enumerate() if thread is not threading.main_thread() and not thread.daemon]
+        self.assertEqual(left, [])
+        self.assertEqual(ann.run("show w"), [])
+
     def test_how_long_a_question_may_take_by_its_option(self):
         self.town("ann")[0].close()
         said = self.session("ann", b"match w w\nshow w\n", "--program", str(self.slow_program(20)), "--seconds", "0.5")
@@ -468,7 +483,7 @@ class Sessions(ReplicaCase):
                 self.assertEqual(self.asked(short, b"layers\n", 2), [b"rows 1", b"w point"])
         self.assertLess(len(os.listdir(f"/proc/{process.pid}/fd")), 100)
         process.send_signal(signal.SIGINT)
-        self.assertEqual(process.wait(30), 130)
+        self.assertEqual(process.wait(120), 130)
         self.assertIn(b"500 programs are connected, and no more are let in", process.stderr.read())
 
     def test_the_owner(self):
@@ -619,6 +634,72 @@ class Cuts(ReplicaCase):
         # Who has the cut goes on.
         ann.follow()
         self.assertEqual(ann.run("add w POINT (3 3)"), "ok 3")
+
+    def dropped(self, follower):
+        """Has all of the log dropped, once another replica has it, and gives the place of the cut."""
+        at = owning.cut(self.owner, 0, 10).at
+        follower.follow()
+        owning.drop_before(self.owner, at, 1, "0", 5)
+        return at
+
+    def test_a_line_stands_once_where_its_key_was_dropped_before_it_is_tried_again(self):
+        """The connection is lost before the answer comes, and who wrote it sleeps until all is dropped."""
+        ann, ben = self.town("ann", "ben")
+        whole = Link.ask
+        lost = []
+
+        def ask(link, words, *values, **named):
+            rows = whole(link, words, *values, **named)
+            if "sfstore.append" in words and not lost:
+                lost.append(self.dropped(ben))
+                link.close()
+                raise LinkLost("the server went away")
+            return rows
+
+        with unittest.mock.patch.object(Link, "ask", ask), self.assertRaisesRegex(AnswerGone, "nothing was written again: look whether"):
+            ann.run("add w POINT (1 1)")
+        ben.follow()
+        self.assertEqual(ben.run("show w"), ["1 POINT (1 1)"])
+        self.assertEqual(self.ask("SELECT at FROM sfstore.head"), [(lost[0],)])
+
+    def test_a_line_that_is_not_acknowledged_stands_once_where_its_key_was_dropped(self):
+        """Another process tries it again, which has all of the log."""
+        ann, ben = self.town("ann", "ben")
+        with unittest.mock.patch.object(ann, "_catch_up", side_effect=LogUnreachable("nobody")), self.assertRaises(NotAcknowledged) as caught:
+            ann.run("add w POINT (1 1)")
+        ann.follow()
+        ann.close()
+        self.dropped(ben)
+        [file] = (self.folder / "ben").glob("*.sfs")
+        shutil.rmtree(self.folder / "ann")
+        again = self.replica("ann", begin_from=file)
+        with self.assertRaisesRegex(AnswerGone, "nothing was written again: look whether"):
+            again.write(["add w POINT (1 1)"], caught.exception.keys)
+        self.assertEqual(again.run("show w"), ["1 POINT (1 1)"])
+
+    def test_one_that_was_away_writes_nothing_into_a_log_that_was_dropped(self):
+        ann, ben = self.town("ann", "ben")
+        ben.run("add w POINT (1 1)")
+        at = self.dropped(ben)
+        with self.assertRaisesRegex(ReplicaStopped, f"begins at place {at + 1}, .* begin from the file of another replica. Nothing was written"):
+            ann.run("add w POINT (2 2)")
+        ben.follow()
+        self.assertEqual(ben.run("show w"), ["1 POINT (1 1)"])
+
+    def test_one_that_stops_behind_its_own_line_says_that_it_stands(self):
+        ann, ben = self.town("ann", "ben")
+        append = ann._writing.append
+
+        def slow(*words):
+            places = append(*words)
+            self.dropped(ben)
+            return places
+
+        with unittest.mock.patch.object(ann._writing, "append", slow), self.assertRaisesRegex(
+            ReplicaStopped, "begin from the file of another replica. The log has what was written last, from place [0-9]+ on: do not write"
+        ):
+            ann.run("add w POINT (2 2)")
+        self.assertEqual(ben.run("show w"), ["1 POINT (2 2)"])
 
     def test_a_file_to_begin_from_that_is_not_that_of_the_others(self):
         ann, ben = self.town("ann", "ben")

@@ -17,8 +17,11 @@ export function drawn(name, attributes = {}) {
   return made;
 }
 
+// Made once: to make one takes longer than to write a thousand numbers.
+const WHOLE = new Intl.NumberFormat("en");
+
 /** A number for people, with its thousands apart. */
-export const counted = (number) => number.toLocaleString("en");
+export const counted = (number) => WHOLE.format(number);
 
 /** A decimal that is written as a text, with its thousands apart, and all of its digits. */
 export const grouped = (text) => text.replace(/^[0-9]+/, (whole) => counted(BigInt(whole)));

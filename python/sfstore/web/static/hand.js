@@ -183,6 +183,15 @@ export class Hand {
     this.#sketch();
   }
 
+  /** Gives up what is being drawn, with some words: its places are others now. They stay in the console, as they were. */
+  letGo(words) {
+    const { units } = this.app.place;
+    const begun = this.app.drawing.from ? [this.app.drawing.from] : this.points;
+    if (begun.length) this.app.miss(`${this.tool} ${begun.map((point) => units.point(point)).join(", ")}`, words);
+    this.giveUp();
+    this.app.drawing.giveUp();
+  }
+
   giveUp() {
     this.points = [];
     this.app.drawing.from = null;

@@ -42,18 +42,18 @@ export class Log {
     };
   }
 
-  #take(line, seen, onLine) {
+  #take(line, begun, onLine) {
     const size = this.group ? 0 : Number(HEAD.exec(line)?.[1] ?? 0);
-    if (0 < size && size <= GROUP_MAX) this.group = { lines: [], size, head: line, seen };
+    if (0 < size && size <= GROUP_MAX) this.group = { lines: [], size, head: line, begun };
     else if (this.group) this.group.lines.push(line);
-    else return onLine(line, seen);
+    else return onLine(line, begun);
     const { lines, head, ...group } = this.group;
     if (lines.length < group.size) {
       this.add(line, `${lines.length + 1} of ${group.size} comes next; Escape leaves the group`);
       return;
     }
     this.group = null;
-    onLine([head, ...lines].join("\r"), group.seen);
+    onLine([head, ...lines].join("\r"), group.begun);
   }
 
   #leave() {

@@ -13,6 +13,8 @@ const REST_MILLISECONDS = 120;
 const FAR_PIXELS = 50_000;
 // So many symbols are drawn anew with each step of a zoom; more of them once it rests.
 const FORMS_MAX = 1_000;
+// Of so many layers it is told what they have that is not drawn one by one.
+const TOLD_MAX = 5;
 
 export class FeatureMap {
   /** `onShown` is called once something else is drawn, `onCounted` with a sentence once the window has something else. */
@@ -23,8 +25,12 @@ export class FeatureMap {
     this.onShown = onShown;
     this.onCounted = onCounted;
     this.layers = [];
+    // There may be very many: none is searched in a list.
+    this.byName = new Map();
     this.origin = null;
     this.seen = null;
+    // What is another number once another store, or another grid, is behind the page: what was asked before shows nothing.
+    this.turn = 0;
     this.chosen = null;
     this.hits = new Map();
     this.styles = {};
@@ -34,7 +40,7 @@ export class FeatureMap {
 
   /** Takes the layers of the store; those that were hidden stay so. */
   setLayers(layers) {
-    const before = new Map(this.layers.map((layer) => [layer.name, layer]));
+    const before = this.byName;
     this.layers = layers.map((layer, place) => {
       const style = wholeStyle(this.styles[layer.name]);
       const known = before.get(layer.name) ?? { shown: style.isShown, inside: 0, features: new Map(), group: drawn("g"), pointSize: style.size };
@@ -43,7 +49,20 @@ export class FeatureMap {
       putOn(known.group, style, layer.kind);
       return Object.assign(known, layer, { style, tint });
     });
+    this.byName = new Map(this.layers.map((layer) => [layer.name, layer]));
     this.#showLayers();
+  }
+
+  /** Has nothing drawn, as everything lies elsewhere. */
+  forget() {
+    this.turn += 1;
+    this.seen = null;
+    this.isStale = true;
+    for (const layer of this.layers) {
+      Object.assign(layer, { inside: 0, isCounted: false, features: new Map() });
+      layer.group.replaceChildren();
+    }
+    this.overview.forget();
   }
 
   /** Follows a layer to another name: whoever has turned it off does not see it. */
@@ -51,6 +70,8 @@ export class FeatureMap {
     const layer = this.layer(before);
     if (!layer) return;
     layer.name = after;
+    this.byName.delete(before);
+    this.byName.set(after, layer);
     for (const { id, path } of layer.features.values()) path.id = `${after}-${id}`;
   }
 
@@ -88,7 +109,7 @@ export class FeatureMap {
   }
 
   layer(name) {
-    return this.layers.find((layer) => layer.name === name);
+    return this.byName.get(name);
   }
 
   setShown(name, shown) {
@@ -127,7 +148,12 @@ export class FeatureMap {
       const start = performance.now();
       const asked = { box: this.#box(), scale: this.view.scale, view: this.#viewed() };
       this.coming = asked;
+      const { turn } = this;
       const layers = await this.#window(asked.box).finally(() => (this.coming = null));
+      if (turn !== this.turn) {
+        this.wanted = true;
+        continue;
+      }
       this.#show(layers);
       this.seen = asked;
       this.onShown();
@@ -140,9 +166,10 @@ export class FeatureMap {
   async #window(box) {
     const shown = this.visibleLayers.map((layer) => layer.name);
     const { window } = this;
-    const crowded = shown.map((name) => ({ name, inside: this.overview.least(name, window), features: null, isLeast: true }));
-    const known = crowded.filter(({ inside }) => inside > this.most);
-    const asked = shown.filter((name) => !known.some((layer) => layer.name === name));
+    const least = this.overview.least(window);
+    const isKnown = (name) => (least.get(name) ?? 0) > this.most;
+    const known = shown.filter(isKnown).map((name) => ({ name, inside: least.get(name), features: null, isLeast: true }));
+    const asked = shown.filter((name) => !isKnown(name));
     const answer = await call("window", { box, window, layers: asked });
     this.most = answer.most;
     return [...answer.layers, ...known];
@@ -167,8 +194,10 @@ export class FeatureMap {
   }
 
   async #redrawSome(layer, ids) {
+    const { turn } = this;
     const { features } = await call("shapes", { layer: layer.name, ids });
-    if (layer.isCounted) return;
+    // Where nothing is drawn yet, the window that comes has them.
+    if (layer.isCounted || turn !== this.turn || !this.seen) return;
     for (const id of ids) this.#takeOut(layer, id);
     for (const [id, code, members] of features) {
       const [left, bottom, right, top] = boxOf(members);
@@ -383,8 +412,9 @@ export class FeatureMap {
     const drawnCount = sum(shown) - sum(crowded);
     const whole = `${countedFeatures(sum(shown), crowded.some(({ isLeast }) => isLeast))} in the window`;
     if (!crowded.length) return `${whole}, all drawn.`;
-    const parts = crowded.map(({ name, inside, isLeast }) => `${name} has ${isLeast ? "over " : ""}${counted(inside)} here: zoom in to see them.`);
-    return [`${whole}, ${counted(drawnCount)} drawn one by one.`, ...parts].join(" ");
+    const told = crowded.slice(0, TOLD_MAX).map(({ name, inside, isLeast }) => `${name} has ${isLeast ? "over " : ""}${counted(inside)} here: zoom in to see them.`);
+    const more = crowded.length > TOLD_MAX ? [`So do ${counted(crowded.length - TOLD_MAX)} layers more.`] : [];
+    return [`${whole}, ${counted(drawnCount)} drawn one by one.`, ...told, ...more].join(" ");
   }
 }
 

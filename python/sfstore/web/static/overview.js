@@ -43,13 +43,20 @@ export class Overview {
     return this.running;
   }
 
-  /** How many features of a layer a box has at least, as far as tiles tell it. */
-  least(layer, [left, bottom, right, top]) {
-    let most = 0;
-    for (const tile of this.tiles.values()) {
-      const size = SIDE * 2 ** tile.level;
-      const isWithin = tile.x * size >= left && tile.y * size >= bottom && (tile.x + 1) * size <= right && (tile.y + 1) * size <= top;
-      if (tile.layer === layer && isWithin) most = Math.max(most, tile.count);
+  /** Shows nothing, until it is told again what to show. */
+  forget() {
+    this.layers = [];
+    this.tiles = new Map();
+    this.place();
+  }
+
+  /** How many features of each layer a box has at least, as far as tiles tell it. */
+  least([left, bottom, right, top]) {
+    const most = new Map();
+    for (const { layer, level, x, y, count } of this.tiles.values()) {
+      const size = SIDE * 2 ** level;
+      const isWithin = x * size >= left && y * size >= bottom && (x + 1) * size <= right && (y + 1) * size <= top;
+      if (isWithin) most.set(layer, Math.max(most.get(layer) ?? 0, count));
     }
     return most;
   }
@@ -86,27 +93,29 @@ export class Overview {
   async #ask(layer) {
     const level = this.#level();
     const shown = this.#shown(level);
+    const { tiles: kept } = this;
     let isWhole = true;
     for (let begin = 0; begin < shown.length; begin += ASKED_MAX) {
-      const tiles = shown.slice(begin, begin + ASKED_MAX).map(([x, y]) => [x, y, this.tiles.get(keyOf(layer, level, x, y))?.version ?? 0]);
+      const tiles = shown.slice(begin, begin + ASKED_MAX).map(([x, y]) => [x, y, kept.get(keyOf(layer, level, x, y))?.version ?? 0]);
       const answer = await call("pictures", { layer, level, tiles });
-      await Promise.all(answer.tiles.map((told) => this.#take(layer, level, told)));
+      await Promise.all(answer.tiles.map((told) => this.#take(kept, layer, level, told)));
       this.place();
       isWhole &&= answer.tiles.every((told) => told.whole);
     }
     return isWhole;
   }
 
-  async #take(layer, level, { x, y, count, version, png }) {
+  /** Keeps a tile among those of the store for which it was asked. */
+  async #take(tiles, layer, level, { x, y, count, version, png }) {
     const key = keyOf(layer, level, x, y);
-    const known = this.tiles.get(key);
+    const known = tiles.get(key);
     if (known?.version === version) return;
-    this.tiles.delete(key);
-    this.tiles.set(key, { layer, level, x, y, count, version, picture: png && (await createImageBitmap(blobOf(png))), tinted: null });
+    tiles.delete(key);
+    tiles.set(key, { layer, level, x, y, count, version, picture: png && (await createImageBitmap(blobOf(png))), tinted: null });
     // The oldest go, which nobody has asked for since.
-    for (const oldest of this.tiles.keys()) {
-      if (this.tiles.size <= KEPT_MAX) break;
-      this.tiles.delete(oldest);
+    for (const oldest of tiles.keys()) {
+      if (tiles.size <= KEPT_MAX) break;
+      tiles.delete(oldest);
     }
   }
 
@@ -121,7 +130,9 @@ export class Overview {
     pen.imageSmoothingEnabled = false;
     const level = this.#level();
     const shown = this.layers.length ? this.#shown(level) : [];
-    for (const { name, colour } of this.layers) {
+    // Of very many layers few have a picture yet.
+    const drawn = new Set([...this.tiles.values()].map(({ layer }) => layer));
+    for (const { name, colour } of this.layers.filter((layer) => drawn.has(layer.name))) {
       const tint = colour();
       for (const [x, y] of shown) this.#drawTile(pen, name, tint, level, x, y);
     }

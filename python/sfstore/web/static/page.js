@@ -31,12 +31,16 @@ const OF_FEATURE = /^[ \t]*(?:delete|replace|vertex[ \t]+[a-z]+)[ \t]+([^ \t]+)[
 const CHANGED_MAX = 1_000;
 const RENAMING = /^[ \t]*layer[ \t]+rename[ \t]+([^ \t]+)[ \t]+([^ \t]+)/;
 const ADDITION = /^[ \t]*(?:add|addhex)[ \t]+([^ \t]+)/;
+// Of more layers than this those alone are laid out that the list shows.
+const MANY_LAYERS = 500;
 const PAN_PIXELS = 60;
 // What is smaller on the screen than this is zoomed to.
 const SMALL_PIXELS = 12;
 // How long a message stands before the count takes its place.
 const READ_MILLISECONDS = 4_000;
 const LOST = "The connection is lost. Where sfstore-web was started again, open its new link.";
+const OTHER = "Another store, or another grid of it, is behind this page now.";
+const GIVEN_UP = `${OTHER} What was begun before is given up: look again.`;
 const SAVING = "Save for all? The history begins anew: nobody can undo what was done before.";
 
 class App {
@@ -46,6 +50,9 @@ class App {
     // Which page this is among those of one person, and the version of the store that it shows.
     this.page = crypto.randomUUID();
     this.version = 0;
+    // The store that is shown, and the mark of its grid: what is drawn or typed is meant for these. And the version that is shown.
+    this.shown = {};
+    this.content = 0;
     this.isShown = false;
     this.login = new Login();
     this.steps = { undo: null, redo: null };
@@ -69,7 +76,7 @@ class App {
     this.layerEditor = new LayerEditor(this);
     this.drawing = new Drawing(this);
     this.hand = new Hand(this);
-    this.log = new Log((line, seen) => this.run(line, { seen }), () => this.version);
+    this.log = new Log((line, begun) => this.run(line, begun), () => ({ seen: this.version, shown: this.shown }));
     followPointers(svg, this.view, this.hand);
     svg.addEventListener("keydown", (event) => this.#mapKey(event));
     document.addEventListener("keydown", (event) => this.#anyKey(event));
@@ -103,13 +110,23 @@ class App {
     await this.map.refresh();
   }
 
+  /** Takes the layers of the store and its grid. Where these are others than before, what was begun is given up, and the whole map shown. */
+
   async #readMap(extent) {
     const [found, { styles, fault }] = await Promise.all([call("map", { extent }), call("styles", {})]);
+    // What was asked before may be answered behind what was asked later.
+    if (found.content < this.content) return this.#readMap(extent);
+    const shown = { store: found.store, grid: found.grid_mark };
+    const isFirst = !this.content;
+    const isOther = !isFirst && (shown.store !== this.shown.store || shown.grid !== this.shown.grid);
+    if (isOther && !extent) return this.#readMap(true);
+    this.content = found.content;
+    if (isOther) this.#letGo();
+    if (isFirst || isOther) this.shown = shown;
     this.layerEditor.setFault(fault);
     byId("title").textContent = document.title = found.title;
     this.map.styles = styles;
     this.place.setGrid(found.grid);
-    this.grid = found.grid_mark;
     this.background.set(found.background, this.place.units);
     this.map.setLayers(found.layers);
     const listed = JSON.stringify(found.layers.map(({ name, kind }) => [name, kind]));
@@ -123,20 +140,32 @@ class App {
     this.table.setLayers(found.layers);
     this.layerEditor.setLayers(found.layers);
     this.#tellSteps(found);
+    if (isOther && found.extent) this.view.fit(found.extent);
     return found;
+  }
+
+  /** Has all parts let go of what was begun over another store, or another grid: its places are others here. */
+  #letGo() {
+    this.#closeRefusal();
+    this.tell(OTHER);
+    this.hand.letGo(GIVEN_UP);
+    this.selection.letGo(GIVEN_UP);
+    this.asking.clear();
+    this.labels.forget();
+    this.map.forget();
   }
 
   /**
    * Has a line carried out, or a group as one, and shows its answer.
    *
-   * `seen` is the version of the store that whoever wrote the line has seen.
+   * `seen` is the version of the store that whoever wrote the line has seen, `shown` the store that was shown then, with its grid.
    */
-  async run(line, { isFurther = false, seen = this.version } = {}) {
+  async run(line, { isFurther = false, seen = this.version, shown: { store, grid } = this.shown } = {}) {
     const [shown] = line.split("\r");
     const step = this.steps[shown.trim()]?.line ?? shown;
     let answer;
     try {
-      answer = await this.#send({ line, page: this.page, seen, units: "map", grid: this.grid });
+      answer = await this.#send({ line, page: this.page, seen, units: "map", store, grid });
     } catch (fault) {
       if (fault.status === 409) this.miss(shown, fault.message);
       else if (fault instanceof CallFailed) this.log.add(shown, fault.message, "refused");
@@ -254,14 +283,13 @@ class App {
 
   /** Looks at everything, at first at the whole map. */
   async #lookAnew() {
-    const before = this.grid;
+    const before = this.shown;
     const { version, extent, grid_fault: fault } = await this.#readMap(!this.isShown);
-    const isMoved = this.isShown && this.grid !== before;
-    if (extent) this.view.fit(extent);
+    const isMoved = this.isShown && this.shown !== before;
+    if (extent && !this.isShown) this.view.fit(extent);
     if (fault && (isMoved || !this.isShown)) this.#showWords("Coordinates are no longer those of the map.", { reason: fault });
     this.isShown = true;
-    // On another grid everything lies elsewhere.
-    await (isMoved ? this.showAll() : this.map.refresh());
+    await this.map.refresh();
     await this.selection.refresh();
     this.history.changed();
     this.version = Math.max(this.version, version);
@@ -373,12 +401,14 @@ class App {
     for (const note of byId("layers").querySelectorAll("[data-count]")) {
       const layer = this.map.layer(note.dataset.count);
       const isVisible = layer && this.map.isVisible(layer);
-      note.textContent = isVisible ? counted(layer.inside) : layer?.shown ? "not at this scale" : "";
+      const words = isVisible ? counted(layer.inside) : layer?.shown ? "not at this scale" : "";
+      if (note.textContent !== words) note.textContent = words;
       note.closest("li").classList.toggle("unseen", !isVisible);
     }
   }
 
   #listLayers() {
+    byId("layers").classList.toggle("many", this.map.layers.length > MANY_LAYERS);
     byId("layers").replaceChildren(...this.map.layers.map((layer, place) => this.#layerItem(layer, place)));
     this.#tellCounts();
   }

@@ -61,6 +61,7 @@ export class Selection {
    */
   #edit(line, feature = this.feature, { needsShape = false, asSeen = false } = {}) {
     const words = line(nameOf(feature));
+    const { shown } = this.app;
     const seen = !asSeen && isSame(this.feature, feature) ? this.feature : feature;
     const sent = this.turn.then(async () => {
       if (this.isUnsure) await this.refresh();
@@ -68,7 +69,7 @@ export class Selection {
       const now = isSame(this.feature, feature) ? this.feature : null;
       if (needsShape && !now) return this.app.miss(words, `${nameOf(feature)} is selected no more.`);
       if (needsShape && now.wkt !== feature.wkt) return this.app.miss(words, missed(now));
-      return this.app.run(words, { seen: (now && isAlike(now, seen) ? now : seen).version });
+      return this.app.run(words, { seen: (now && isAlike(now, seen) ? now : seen).version, shown });
     });
     // Whether it was done is not known where the answer is lost: it is looked at before the next one.
     this.turn = sent.catch(() => (this.isUnsure = true));
@@ -92,6 +93,28 @@ export class Selection {
   /** Looks anew at the selected feature, or at the one that is being selected: it may have been changed. */
   refresh() {
     return this.wanted ? this.choose({ ...this.wanted }) : undefined;
+  }
+
+  /** Lets go of what is selected, with some words: another feature may have its name now. What is typed or dragged stays in the console. */
+  letGo(words) {
+    const { feature } = this;
+    this.wanted = null;
+    if (!feature) return;
+    if (this.held) this.app.miss(vertexLine(this.held, feature, this.app.place.units), words);
+    this.giveUp();
+    // One that is pressed, and was not moved yet.
+    for (const handle of this.app.overlay.handles.children) handle.isGivenUp = true;
+    if (this.#isTextTyped(feature)) this.app.miss(`replace ${nameOf(feature)} ${typedText()}`, words);
+    for (const each of feature.values) {
+      const input = byId(`value-${each.name}`);
+      if (!isTyped(input)) continue;
+      this.app.miss(valueLine(feature, each.name, each.type, input), words);
+      show(input, input.shown);
+    }
+    this.feature = null;
+    this.app.mark();
+    this.#tell(feature);
+    this.showHandles();
   }
 
   #replace() {

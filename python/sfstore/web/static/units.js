@@ -2,6 +2,9 @@
 
 const DECIMAL = /^([+-]?)([0-9]*)(?:\.([0-9]*))?(?:[eE]([+-]?[0-9]{1,3}))?$/;
 
+// How many digits a browser writes behind a point at most, and how many a double has.
+const FRACTION_DIGITS = 20;
+const DOUBLE_DIGITS = 15;
 const DEGREE = "°";
 
 /** A decimal as a whole number and how many of its digits stand behind the point. */
@@ -62,12 +65,18 @@ export class Units {
 
   /** A length that was measured in steps, with a digit more than a step has. */
   length(steps) {
-    return this.withUnit((steps * this.size).toLocaleString("en", { maximumFractionDigits: this.digits + 1 }));
+    return this.withUnit(this.#measured(steps * this.size));
   }
 
   /** An area that was measured in squared steps. */
   area(squaredSteps) {
-    return this.withSquaredUnit((squaredSteps * this.size * this.size).toLocaleString("en", { maximumFractionDigits: this.digits + 1 }));
+    return this.withSquaredUnit(this.#measured(squaredSteps * this.size * this.size));
+  }
+
+  /** A measure for people. Of a grid as fine as atoms it has so many digits as a double has, since no number is written with all behind its point. */
+  #measured(number) {
+    const isFine = this.digits >= FRACTION_DIGITS;
+    return number.toLocaleString("en", isFine ? { maximumSignificantDigits: DOUBLE_DIGITS } : { maximumFractionDigits: this.digits + 1 });
   }
 
   /** A length with its unit, where that is known. */
