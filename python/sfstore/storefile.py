@@ -7,7 +7,7 @@ from __future__ import annotations
 
 import struct
 from array import array
-from collections.abc import Iterator, Mapping, Sequence
+from collections.abc import Callable, Iterator, Mapping, Sequence
 from dataclasses import dataclass, field
 from datetime import date, datetime, time, timedelta, timezone
 from decimal import Decimal
@@ -106,28 +106,48 @@ def _name(name: str) -> bytes:
 
 
 def _feature(feature: FileFeature, types: Mapping[int, int]) -> bytes:
-    parts = [struct.pack(">II", feature.id, len(feature.geometry)), feature.geometry]
-    parts.append(struct.pack(">H", len(feature.values)))
-    for number, value in sorted(feature.values.items()):
-        parts.append(struct.pack(">H", number) + _value_bytes(value, types[number]))
+    identifier, geometry, known = feature
+    parts = [_HEAD.pack(identifier, len(geometry)), geometry, _SHORT.pack(len(known))]
+    parts += [_PACKED[types[number]](number, value) for number, value in sorted(known.items())]
     return b"".join(parts)
 
 
-def _value_bytes(value: Value, kind: int) -> bytes:
-    """A value as a column of a type has it."""
-    if kind == TEXT:
-        text = cast(str, value).encode("utf-8")
-        return struct.pack(">H", len(text)) + text
-    if kind == DECIMAL:
-        return _DECIMAL.pack(*values.mantissa_and_places(Decimal(cast(Decimal, value))))
-    if kind == BOOL:
-        return _BYTE.pack(cast(bool, value))
-    if kind == DATE:
-        return _date_bytes(cast(date, value))
-    if kind == DATETIME:
-        moment = values.in_utc(cast(datetime, value))
-        return _date_bytes(moment) + _MILLISECONDS.pack((moment - _midnight(moment)) // _MILLISECOND)
-    return _LONG.pack(value)
+def _whole_bytes(number: int, value: Value) -> bytes:
+    return _SHORT_LONG.pack(number, value)
+
+
+def _text_bytes(number: int, value: Value) -> bytes:
+    text = cast(str, value).encode("utf-8")
+    return _SHORT_SHORT.pack(number, len(text)) + text
+
+
+def _decimal_bytes(number: int, value: Value) -> bytes:
+    exact = value if isinstance(value, Decimal) else Decimal(cast(int, value))
+    return _SHORT_DECIMAL.pack(number, *values.mantissa_and_places(exact))
+
+
+def _truth_bytes(number: int, value: Value) -> bytes:
+    return _SHORT_BYTE.pack(number, value)
+
+
+def _day_bytes(number: int, value: Value) -> bytes:
+    return _SHORT.pack(number) + _date_bytes(cast(date, value))
+
+
+def _moment_bytes(number: int, value: Value) -> bytes:
+    moment = values.in_utc(cast(datetime, value))
+    return _SHORT.pack(number) + _date_bytes(moment) + _MILLISECONDS.pack((moment - _midnight(moment)) // _MILLISECOND)
+
+
+# What a column of each type has of a value, behind its number.
+_PACKED: dict[int, Callable[[int, Value], bytes]] = {
+    INT: _whole_bytes,
+    TEXT: _text_bytes,
+    DECIMAL: _decimal_bytes,
+    BOOL: _truth_bytes,
+    DATE: _day_bytes,
+    DATETIME: _moment_bytes,
+}
 
 
 def _date_bytes(day: date) -> bytes:
@@ -179,8 +199,10 @@ def fault_words(path: str, last: str) -> str:
     return f"place {place}, {name}: {BAD_FIELDS.get(number, 'it is wrong')} ({number})"
 
 
-_HEAD, _BYTE, _SHORT, _LONG = struct.Struct(">II"), struct.Struct(">B"), struct.Struct(">H"), struct.Struct(">q")
+_HEAD, _SHORT, _LONG = struct.Struct(">II"), struct.Struct(">H"), struct.Struct(">q")
 _DECIMAL, _DATE, _MILLISECONDS = struct.Struct(">qB"), struct.Struct(">HBB"), struct.Struct(">I")
+_SHORT_SHORT, _SHORT_LONG = struct.Struct(">HH"), struct.Struct(">Hq")
+_SHORT_DECIMAL, _SHORT_BYTE = struct.Struct(">HqB"), struct.Struct(">HB")
 _MILLISECOND = timedelta(milliseconds=1)
 _WIDTHS = {INT: 8, DECIMAL: 9, BOOL: 1, DATE: 4, DATETIME: 8}
 """How many bytes a value of each type has; a text says itself how many."""

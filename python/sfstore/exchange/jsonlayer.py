@@ -45,6 +45,7 @@ _IDENTIFIER = "id"
 # In which order the kinds of values are told.
 _KINDS_OF_VALUES = ["whole numbers", "real numbers", "booleans", "texts", "objects", "lists"]
 _WHOLE, _REAL, _BOOLEAN, _TEXT, _OBJECT, _LIST = _KINDS_OF_VALUES
+_KINDS_BY_TYPE = {bool: _BOOLEAN, int: _WHOLE, str: _TEXT, dict: _OBJECT, Repeated: _OBJECT, list: _LIST}
 _NUMBERS, _NESTED = {_WHOLE, _REAL}, {_OBJECT, _LIST}
 
 
@@ -76,7 +77,8 @@ class _Column:
         kind = _kind_of(value)
         self.kinds.add(kind)
         if kind in _NUMBERS:
-            self.fits = self.fits and not decimal_of(value).fault
+            is_one = INT_MIN <= value <= INT_MAX if type(value) is int else not decimal_of(value).fault
+            self.fits = self.fits and is_one
             self.is_short = self.is_short and _SHORT_MIN <= value <= _SHORT_MAX
 
     @property
@@ -389,9 +391,9 @@ def _crs(head: Mapping[str, Any]) -> Crs | None:
 
 
 def _kind_of(value: Any) -> str:
-    for types, kind in ((bool, _BOOLEAN), (int, _WHOLE), (str, _TEXT), (dict, _OBJECT), (list, _LIST)):
-        if isinstance(value, types):
-            return kind
+    kind = _KINDS_BY_TYPE.get(type(value))
+    if kind is not None:
+        return kind
     # A whole number of many digits is no real one.
     return _WHOLE if isinstance(value, Decimal) and value.as_tuple().exponent == 0 else _REAL
 

@@ -29,6 +29,8 @@ _LAST_ID = IDENTIFIER_MAX - 1
 # How many features are asked of the program at a time, and how many bytes their geometries have then at most, but for
 # the last one: a point takes ten times as much here.
 _BATCH, _BATCH_BYTES = 2_000, 4_000_000
+# A binary of so many bytes has no more points than a store takes.
+_SURELY_SMALL = 16 * POINTS_MAX
 # How much of a feature's name is shown.
 _NAME_SHOWN = 40
 
@@ -216,7 +218,7 @@ class LayerImport:
         reason, detail = "", ""
         try:
             found = read_wkb(flat)
-            count = sum(len(line) // 2 for member in found.members for line in member)
+            count = _count(found) if len(flat) > _SURELY_SMALL else 0
             if count <= POINTS_MAX:
                 return self._fitted(found.mapped(lambda line: self._grid.steps(line, self._rounding)))
             reason, detail = "too many points", f"{count:,} points, at most {POINTS_MAX:,}"
@@ -264,8 +266,7 @@ class LayerImport:
         """A shape that the program takes in the place of one that it does not, which is told; none where there is none."""
 
         def is_taken(shape: Shape) -> bool:
-            count = sum(len(line) // 2 for member in shape.members for line in member)
-            if count > POINTS_MAX:
+            if _count(shape) > POINTS_MAX:
                 return False
             [answer] = scratch.run_all([f"check c {write_wkt(shape)}"])
             return not isinstance(answer, Refused)
@@ -388,6 +389,11 @@ class LayerImport:
 
     def _note(self, text: str) -> None:
         self._report.note(self._source_name, text)
+
+
+def _count(shape: Shape) -> int:
+    """How many points a shape has."""
+    return sum(len(line) // 2 for member in shape.members for line in member)
 
 
 def with_word(why: NotTaken) -> str:
