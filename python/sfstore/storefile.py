@@ -6,6 +6,7 @@ What is written here is for the program to load: it decides whether it is a file
 from __future__ import annotations
 
 import struct
+from abc import abstractmethod
 from array import array
 from collections.abc import Callable, Iterator, Mapping, Sequence
 from dataclasses import dataclass, field
@@ -29,11 +30,14 @@ __all__ = [
     "FileColumn",
     "FileFeature",
     "FileLayer",
+    "Recorded",
     "fault_words",
+    "feature_of",
     "field_at",
     "is_store",
     "read",
     "read_with_rules",
+    "record_of",
     "write",
 ]
 
@@ -74,6 +78,14 @@ class FileFeature(NamedTuple):
     """The values by the numbers of their columns."""
 
 
+class Recorded(Sequence[FileFeature]):
+    """Features that have their bytes already."""
+
+    @abstractmethod
+    def records(self) -> Iterator[bytes]:
+        """What a file has of each."""
+
+
 @dataclass
 class FileLayer:
     """A layer, with all that the file has of it."""
@@ -97,7 +109,8 @@ def write(file: BinaryIO, layers: list[FileLayer]) -> None:
             file.write(struct.pack(">HB", column.number, column.type) + _name(column.name))
         file.write(struct.pack(">I", len(layer.features)))
         types = {column.number: column.type for column in layer.columns}
-        file.writelines(_feature(feature, types) for feature in layer.features)
+        features = layer.features
+        file.writelines(features.records() if isinstance(features, Recorded) else (record_of(feature, types) for feature in features))
     file.write(_NO_RULES)
 
 
@@ -105,7 +118,8 @@ def _name(name: str) -> bytes:
     return struct.pack(">B", len(name)) + name.encode("ascii")
 
 
-def _feature(feature: FileFeature, types: Mapping[int, int]) -> bytes:
+def record_of(feature: FileFeature, types: Mapping[int, int]) -> bytes:
+    """What a file has of a feature, by the types of the columns. `struct.error` where a number has no place in its field."""
     identifier, geometry, known = feature
     parts = [_HEAD.pack(identifier, len(geometry)), geometry, _SHORT.pack(len(known))]
     parts += [_PACKED[types[number]](number, value) for number, value in sorted(known.items())]
@@ -276,18 +290,22 @@ class _Features(Sequence[FileFeature]):
 
     def _at(self, at: int) -> FileFeature:
         """The feature at a place."""
-        data = self._data
-        identifier, length = _HEAD.unpack_from(data, at)
-        geometry, at = data[at + 8 : at + 8 + length], at + 8 + length
-        (count,) = _SHORT.unpack_from(data, at)
-        at += 2
-        found: dict[int, Value] = {}
-        for _ in range(count):
-            (column,) = _SHORT.unpack_from(data, at)
-            kind = self._types[column]
-            found[column] = _value_at(data, at + 2, kind)
-            at = _behind_value(data, at + 2, kind)
-        return FileFeature(identifier, geometry, found)
+        return feature_of(self._data, at, self._types)
+
+
+def feature_of(data: bytes, at: int, types: Mapping[int, int]) -> FileFeature:
+    """The feature that begins at a place, by the types of the columns."""
+    identifier, length = _HEAD.unpack_from(data, at)
+    geometry, at = data[at + 8 : at + 8 + length], at + 8 + length
+    (count,) = _SHORT.unpack_from(data, at)
+    at += 2
+    found: dict[int, Value] = {}
+    for _ in range(count):
+        (column,) = _SHORT.unpack_from(data, at)
+        kind = types[column]
+        found[column] = _value_at(data, at + 2, kind)
+        at = _behind_value(data, at + 2, kind)
+    return FileFeature(identifier, geometry, found)
 
 
 _VALUE_NAMES = {

@@ -13,7 +13,7 @@ from collections import Counter
 from collections.abc import Callable, Mapping
 from decimal import Decimal
 from functools import partial
-from typing import Any, NamedTuple
+from typing import Any, NamedTuple, cast
 
 from sfstore.exchange import flatgeobuf, ogr
 from sfstore.exchange.asking import asked, quoted, tells_apart
@@ -24,12 +24,13 @@ from sfstore.exchange.layers import Fault, Feature, Left, SourceColumns
 from sfstore.exchange.moments import day_of, moment_of, text_of_day, text_of_moment, text_of_time
 from sfstore.exchange.names import Names, kept_name
 from sfstore.exchange.shapefiles import foreign_columns, odd_values
+from sfstore.exchange.spool import Features
 from sfstore.exchange.stored import MAKERS, Made, whole_of
 from sfstore.exchange.tables import columns_of, confused, table_of
 from sfstore.language import TEXT_MAX
 from sfstore.results import Value
 from sfstore.sidecar import ColumnOrigin
-from sfstore.storefile import BOOL, DATETIME, DECIMAL, INT, TEXT, FileColumn, FileFeature
+from sfstore.storefile import BOOL, DATETIME, DECIMAL, INT, TEXT, FileColumn
 from sfstore.storefile import DATE as FILE_DATE
 
 __all__ = ["Fields", "text_fault"]
@@ -145,6 +146,11 @@ class _Reading(NamedTuple):
     """Whether the column becomes one of texts where a value is none of its type."""
     field: _Field
 
+    @property
+    def is_kept_as_text(self) -> bool:
+        """Whether nobody knows before the last value what each becomes."""
+        return self.is_text and self.maker is not None
+
 
 class Fields(SourceColumns):
     """The columns of one layer."""
@@ -181,7 +187,7 @@ class Fields(SourceColumns):
     def values(self, read: Feature) -> tuple[dict[int, Any], list[Fault]]:
         """The values of a feature by the numbers of their columns, and what is left out of them.
 
-        Where a column may become one of texts, numbers, days and moments are as the source has them until `finished`.
+        Where a column may become one of texts, they are texts that say what the source has, until `finished`.
         """
         values: dict[int, Any] = {}
         faults: list[Fault] = []
@@ -228,28 +234,35 @@ class Fields(SourceColumns):
             if not reading.is_text:
                 return found, fault
             if not fault:
-                return value, ""
+                return _kept(value), ""
             self._broken.add(reading.number)
-        return value, _text_fault(_text_of(value))
+        return _kept(value), _text_fault(_text_of(value))
 
-    def finished(self, features: list[FileFeature]) -> tuple[list[FileColumn], list[FileFeature], list[ColumnOrigin]]:
+    def types(self) -> dict[int, int]:
+        return {reading.number: TEXT if reading.is_kept_as_text else reading.field.type for reading in self._readings()}
+
+    def finished(self, features: Features) -> tuple[list[FileColumn], Features, list[ColumnOrigin]]:
         """The columns at the end, the features with them, and what the columns were in the source."""
         # Those that were left out have no number.
         new = {field.number: number for number, field in enumerate(self._fields, 1)}
         columns = [FileColumn(new[field.number], self._final_type(field), field.name) for field in self._fields]
-        makers: dict[int, Callable[[Any], Any]] = {}
-        for field in self._fields:
-            if self._final_type(field) == TEXT and field.source_type in _NUMBERS:
-                makers[field.number] = _text_of
-            elif field.maker and field.number not in self._broken and self._is_text(field.name):
-                makers[field.number] = field.maker
+        makers = {reading.number: self._finisher(reading) for reading in self._readings() if reading.is_kept_as_text}
         if makers or any(number != old for old, number in new.items()):
-            features = [feature._replace(values=_settled(feature.values, makers, new)) for feature in features]
+            types = {column.number: column.type for column in columns}
+            features = features.changed(lambda each: each._replace(values=_settled(each.values, makers, new)), types)
         self.notes += [
             f"column {name}: {count:,} {'value is' if count == 1 else 'values are'} {change}"
             for (name, change), count in self._changed.items()
         ]
         return columns, features, [self._origins[field.number] for field in self._fields]
+
+    def _finisher(self, reading: _Reading) -> Callable[[str], Value]:
+        """What makes a value of the store of the text that a value of the source was kept as."""
+        maker = reading.maker
+        if maker is None or reading.number in self._broken:
+            return lambda text: _text_of(_said(text))
+        made = maker
+        return lambda text: cast(Value, made(_said(text)).value)
 
     def demands(self) -> dict[str, frozenset[Demanded]]:
         """What the source demands of the columns that are taken, by their names; of those of which it demands something."""
@@ -465,6 +478,8 @@ def _reader_of(field: _Field) -> Callable[[Any, int], Any]:
     """What reads a value of a column, of a feature and at a place."""
     if field.source_type in (INTEGER, INTEGER_64):
         return lambda feature, place: feature.GetFieldAsInteger64(place)
+    if field.source_type == REAL and field.type == TEXT:
+        return lambda feature, place: _text_of(feature.GetFieldAsDouble(place))
     if field.source_type == REAL:
         return lambda feature, place: feature.GetFieldAsDouble(place)
     return partial(_text, _texts_of(field))
@@ -482,16 +497,23 @@ def _text_fault(text: Any) -> str:
     return text_fault(text if isinstance(text, str) else _text_of(text))
 
 
-def _settled(
-    values: Mapping[int, Any], makers: Mapping[int, Callable[[Any], Any]], new: Mapping[int, int]
-) -> dict[int, Value]:
+def _settled(values: Mapping[int, Any], makers: Mapping[int, Callable[[Any], Value]], new: Mapping[int, int]) -> dict[int, Value]:
     """Values as the store has them, by the columns' new numbers."""
-    return {new[number]: _made(value, makers.get(number)) for number, value in values.items() if number in new}
+    return {new[number]: makers[number](value) if number in makers else value for number, value in values.items()}
 
 
-def _made(value: Any, maker: Callable[[Any], Any] | None) -> Any:
-    found = value if maker is None else maker(value)
-    return found.value if isinstance(found, Made) else found
+def _kept(value: float | int | str) -> str:
+    """A value of a source as a text, until it is known what it becomes. No text of a source has a byte 0."""
+    if isinstance(value, str):
+        return value
+    return f"\0{value!r}" if isinstance(value, float) else f"\0\0{value}"
+
+
+def _said(text: str) -> float | int | str:
+    """The value of a source that `_kept` has made a text of."""
+    if text.startswith("\0\0"):
+        return int(text[2:])
+    return float(text[1:]) if text.startswith("\0") else text
 
 
 def _text(read: Callable[[Any, int], str], feature: Any, place: int) -> str | None:
