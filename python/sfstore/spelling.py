@@ -59,7 +59,7 @@ def all_encoded(lines: Sequence[str], address: str = "") -> list[bytes]:
 
 def _part_encoded(lines: Sequence[str], address: str) -> list[bytes]:
     """As `all_encoded`: most lines are plain, and are looked at together."""
-    text = "".join([f"{address}{line}\n" for line in lines])
+    text = address + f"\n{address}".join(lines) + "\n"
     if text.count("\n") != len(lines) or any(odd in text for odd in _ODD) or text.startswith("\n"):
         return [encoded(line, address) for line in lines]
     return text.encode("utf-8").splitlines(keepends=True)

@@ -1,15 +1,17 @@
 """Features on their way from a source to a store: as the bytes that the store's file has of them, in a file without a name.
 
-So memory holds some twenty bytes of each, however large it is.
+So memory holds some twenty bytes of each, however large it is; twice that while they are numbered.
 """
 
 from __future__ import annotations
 
+import contextlib
 import tempfile
 import weakref
 from array import array
 from collections.abc import Callable, Iterator, Mapping, Sequence
-from typing import overload
+from itertools import islice
+from typing import IO, overload
 
 from sfstore.storefile import FileFeature, Recorded, feature_of, record_of
 
@@ -29,7 +31,7 @@ class _File:
         self.size = 0
         # A seek to where it stands would write out each record by itself.
         self._is_at_end = True
-        weakref.finalize(self, self.bytes.close)
+        weakref.finalize(self, _close, self.bytes)
 
     def add(self, record: bytes) -> None:
         """Writes a record behind the others."""
@@ -49,20 +51,26 @@ class _File:
         return found
 
 
+def _close(file: IO[bytes]) -> None:
+    """Lets go of a file, also where the disk is full."""
+    with contextlib.suppress(OSError):
+        file.close()
+
+
 class Features(Recorded):
     """Features in their order, whose identifiers may be any numbers of 64 bits until they are written.
 
     They are of one layer, whose columns have types.
     """
 
-    def __init__(self, folder: str, types: Mapping[int, int]) -> None:
+    def __init__(self, folder: str, types: Mapping[int, int], file: _File | None = None) -> None:
         """``folder`` is where there is room for them. `OSError` where no file can be made there."""
         self._folder = folder
         self._types = dict(types)
-        self._file = _File(folder)
+        self._file = _File(folder) if file is None else file
         self._ids = array("q")
         self._places = array("Q")
-        self._lengths = array("L")
+        self._lengths = array("I")
 
     def append(self, feature: FileFeature) -> None:
         """Adds a feature behind the others."""
@@ -91,12 +99,13 @@ class Features(Recorded):
 
     def numbered(self, numbers: Sequence[int]) -> Features:
         """The features with other identifiers, by rising ones."""
-        found = Features.__new__(Features)
-        found._folder, found._types, found._file = self._folder, self._types, self._file
-        order = range(len(numbers)) if _are_rising(numbers) else sorted(range(len(numbers)), key=numbers.__getitem__)
-        found._ids = array("q", map(numbers.__getitem__, order))
-        found._places = array("Q", map(self._places.__getitem__, order))
-        found._lengths = array("L", map(self._lengths.__getitem__, order))
+        found = Features(self._folder, self._types, self._file)
+        found._ids, found._places, found._lengths = array("q", numbers), self._places[:], self._lengths[:]
+        if not _are_rising(numbers):
+            order = sorted(range(len(numbers)), key=numbers.__getitem__)
+            found._ids = array("q", map(numbers.__getitem__, order))
+            found._places = array("Q", map(self._places.__getitem__, order))
+            found._lengths = array("I", map(self._lengths.__getitem__, order))
         return found
 
     def records(self) -> Iterator[bytes]:
@@ -134,8 +143,8 @@ def changed(features: Sequence[FileFeature], change: Callable[[FileFeature], Fil
 
 def are_distinct(numbers: Sequence[int]) -> bool:
     """Whether no number stands twice. Rising ones, as most are, take no room for that."""
-    return all(map(int.__lt__, numbers, numbers[1:])) or len(set(numbers)) == len(numbers)
+    return all(map(int.__lt__, numbers, islice(numbers, 1, None))) or len(set(numbers)) == len(numbers)
 
 
 def _are_rising(numbers: Sequence[int]) -> bool:
-    return all(map(int.__le__, numbers, numbers[1:]))
+    return all(map(int.__le__, numbers, islice(numbers, 1, None)))

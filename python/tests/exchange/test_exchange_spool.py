@@ -2,18 +2,20 @@
 
 from __future__ import annotations
 
+import contextlib
 import datetime
+import gc
 import io
 import os
 import random
-import subprocess
-import sys
 import tempfile
+import tracemalloc
 import unittest
+import unittest.mock
 from decimal import Decimal
 from pathlib import Path
 
-from support import FOLDER, PROGRAM
+from support import PROGRAM
 
 from sfstore import storefile
 from sfstore.exchange.spool import Features, are_distinct, changed
@@ -125,39 +127,51 @@ class OnTheirWay(unittest.TestCase):
 class Memory(unittest.TestCase):
     """What an import holds does not grow with the features of its source."""
 
-    # How many KB more each feature may take: it was 1 and more, and its bytes alone are a third of that.
-    GROWN = 0.12
-    COUNTS = (5_000, 25_000)
+    # How many bytes each feature may take: it was some thousand. A file's own buffer is not counted with them.
+    EACH = 120
+    COUNTS = (1_000, 4_000)
 
-    def most(self, source, store):
-        """The most memory in KB that the process of an import had."""
-        code = (
-            "import resource, sys\n"
-            "from sfstore.exchange.importing import main\n"
-            "status = main(sys.argv[1:])\n"
-            "print(status, resource.getrusage(resource.RUSAGE_SELF).ru_maxrss)\n"
-        )
-        words = [source, store, "--grid", "0", "0", "0.01", "--program", PROGRAM]
-        ended = subprocess.run([sys.executable, "-c", code, *words], cwd=FOLDER, capture_output=True, text=True, check=True)
-        status, most = ended.stdout.splitlines()[-1].split()
-        self.assertEqual(status, "0", ended.stderr)
-        return int(most)
+    def source(self, folder, count):
+        """A GeoJSON of parcels with three columns."""
+        path = Path(folder) / f"{count}.geojson"
+        with path.open("w") as file:
+            file.write('{"type": "FeatureCollection", "features": [')
+            for at in range(count):
+                ring = [[at, 0], [at + 1, 0.25], [at + 1, 9], [at, 9], [at, 0]]
+                properties = f'{{"number": {at}, "owner": "owner {at}", "area": {at}.25}}'
+                geometry = f'{{"type": "Polygon", "coordinates": [{ring}]}}'
+                file.write(f'{"," if at else ""}\n{{"type": "Feature", "id": {at + 1}, "properties": {properties}, "geometry": {geometry}}}')
+            file.write("]}")
+        return path
 
-    def test_many_parcels_of_a_geojson(self):
+    def held(self, folder, count):
+        """How many bytes stand in memory when all features are read."""
+        from sfstore.exchange import importing, ogr
+
+        found = []
+
+        def publish(*given):
+            gc.collect()
+            found.append(tracemalloc.get_traced_memory()[0])
+            raise ogr.ExchangeError("enough")
+
+        words = [str(self.source(folder, count)), f"{folder}/{count}.sfs", "--grid", "0", "0", "0.01", "--program", PROGRAM]
+        told = io.StringIO()
+        tracemalloc.start()
+        try:
+            with unittest.mock.patch.object(importing, "publish", publish), contextlib.redirect_stderr(told):
+                importing.main(words)
+        finally:
+            tracemalloc.stop()
+        self.assertIn("enough", told.getvalue())
+        return found[0]
+
+    def test_many_parcels(self):
         with tempfile.TemporaryDirectory() as folder:
-            most = []
-            for count in self.COUNTS:
-                source = Path(folder) / f"{count}.geojson"
-                with source.open("w") as file:
-                    file.write('{"type": "FeatureCollection", "features": [')
-                    for at in range(count):
-                        ring = [[at, 0], [at + 1, 0.25], [at + 1, 9], [at, 9], [at, 0]]
-                        properties = f'{{"number": {at}, "owner": "owner {at}", "area": {at}.25}}'
-                        geometry = f'{{"type": "Polygon", "coordinates": [{ring}]}}'
-                        file.write(f'{"," if at else ""}\n{{"type": "Feature", "id": {at + 1}, "properties": {properties}, "geometry": {geometry}}}')
-                    file.write("]}")
-                most.append(self.most(str(source), f"{folder}/{count}.sfs"))
-        self.assertLess((most[1] - most[0]) / (self.COUNTS[1] - self.COUNTS[0]), self.GROWN, most)
+            # Modules are there, and what they keep for later, before anything is counted.
+            self.held(folder, 10)
+            few, many = (self.held(folder, count) for count in self.COUNTS)
+        self.assertLess((many - few) / (self.COUNTS[1] - self.COUNTS[0]), self.EACH)
 
 
 if __name__ == "__main__":
