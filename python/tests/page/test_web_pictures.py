@@ -11,6 +11,7 @@ import tracemalloc
 import unittest
 import unittest.mock
 import zlib
+from importlib.util import find_spec
 
 from support import FOLDER, PROGRAM, TestCase
 from web_support import WebCase
@@ -173,10 +174,10 @@ class SameByNumpy(unittest.TestCase):
 
     def setUp(self):
         super().setUp()
-        try:
-            from sfstore.web import rasterarrays
-        except ImportError:
+        if find_spec("numpy") is None:
             self.skipTest("numpy is missing")
+        from sfstore.web import rasterarrays
+
         self.arrays = rasterarrays
 
     def same(self, shapes, left=0, bottom=0, size=1):
