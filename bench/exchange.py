@@ -1,5 +1,5 @@
 #!/usr/bin/env python3
-"""Measures import and export of parcels of six points with two columns, beside what OGR itself takes to read them.
+"""Measures import and export of parcels of six points with five columns, beside what OGR itself takes to read them.
 
     bench/exchange.py PROGRAM [COUNT]
 
@@ -26,28 +26,35 @@ sys.path.insert(0, str(TOP / "python"))
 from sfstore.exchange import exporting, importing  # noqa: E402
 
 GRID = ["--grid", "504000", "5605000", "0.01"]
+COLUMNS = {"number": ogr.OFTInteger64, "owner": ogr.OFTString, "area": ogr.OFTReal, "floors": ogr.OFTInteger, "since": ogr.OFTDate}
 CORNERS = [(0, 0), (1200, 3), (2500, 0), (2500, 3100), (3, 3100), (0, 0)]
 
 
-def make(path: str, count: int) -> None:
-    """A GeoPackage of parcels in rows."""
-    data = ogr.GetDriverByName("GPKG").CreateDataSource(path)
+def make(name: str, path: str, count: int) -> None:
+    """A map of a format: parcels in rows."""
+    data = ogr.GetDriverByName(name).CreateDataSource(path)
     reference = osr.SpatialReference()
     reference.ImportFromEPSG(25832)
-    layer = data.CreateLayer("parcels", reference, ogr.wkbPolygon, ["FID=id"])
-    layer.CreateField(ogr.FieldDefn("number", ogr.OFTInteger64))
-    layer.CreateField(ogr.FieldDefn("owner", ogr.OFTString))
-    layer.StartTransaction()
+    layer = data.CreateLayer("parcels", reference, ogr.wkbPolygon, ["FID=id"] if name == "GPKG" else [])
+    for column, kind in COLUMNS.items():
+        layer.CreateField(ogr.FieldDefn(column, kind))
+    if name == "GPKG":
+        layer.StartTransaction()
     for place in range(count):
         x, y = 50_000_000 + place % 300 * 2537, 560_000_000 + place // 300 * 3141
         feature = ogr.Feature(layer.GetLayerDefn())
-        feature.SetFID(place + 1 + place // 1000)
+        if name != "ESRI Shapefile":
+            feature.SetFID(place + 1 + place // 1000)
         feature.SetField(0, 1000 + place)
         feature.SetField(1, f"owner {place}")
+        feature.SetField(2, place % 9_000 + place % 100 / 100)
+        feature.SetField(3, place % 7)
+        feature.SetField(4, 1950 + place % 70, 1 + place % 12, 1 + place % 28, 0, 0, 0.0, 0)
         points = ", ".join(f"{(x + a) / 100!r} {(y + b) / 100!r}" for a, b in CORNERS)
         feature.SetGeometry(ogr.CreateGeometryFromWkt(f"POLYGON (({points}))"))
         layer.CreateFeature(feature)
-    layer.CommitTransaction()
+    if name == "GPKG":
+        layer.CommitTransaction()
     data.Destroy()
 
 
@@ -80,10 +87,11 @@ def main() -> None:
     count = int(sys.argv[2]) if len(sys.argv) > 2 else 100_000
     with tempfile.TemporaryDirectory() as folder:
         town, store, back = f"{folder}/town.gpkg", f"{folder}/town.sfs", f"{folder}/back.gpkg"
-        make(town, count)
         print(f"| {count:,} parcels | Seconds | Processor seconds |\n|---|---|---|")
-        timed("OGR's own reading of the GeoPackage", lambda: read(town))
-        timed("import of it", lambda: command(importing.main, town, store, *GRID))
+        for name, source in (("GeoJSON", f"{folder}/town.geojson"), ("ESRI Shapefile", f"{folder}/town.shp"), ("GPKG", town)):
+            make(name, source, count)
+            timed(f"OGR's own reading of the {name}", lambda: read(source))
+            timed("import of it", lambda: command(importing.main, source, store, *GRID, "--overwrite"))
         timed("export to GeoPackage", lambda: command(exporting.main, store, back))
         for name in ("GeoJSON", "FlatGeobuf", "ESRI Shapefile"):
             target = f"{folder}/{name}"

@@ -2,7 +2,7 @@
 
 from __future__ import annotations
 
-from collections.abc import Callable, Iterable, Iterator
+from collections.abc import Callable, Iterable, Iterator, Sequence
 from decimal import Decimal
 from fractions import Fraction
 from typing import cast
@@ -105,7 +105,7 @@ class Editor:
         ...     store.run_all(["layer add wells point", "add wells POINT (3 4)", "redo"])
         ['ok', 'ok 1', Refused(30, 'NothingToRedo', 'redo')]
         """
-        encoded = [self._encoded(line) for line in lines]
+        encoded = self._all_encoded(list(lines))
         if progress is None:
             return self._program.exchange(encoded)
         outcomes: list[Answer | Refused] = []
@@ -402,7 +402,7 @@ class Editor:
         """
         wanted = "" if value is None else f" {values.spelled(value)}"
         rows = self._rows(f"find {spelling.name(layer)} {spelling.name(column)}{wanted}")
-        return [int(row) for row in rows]
+        return list(map(int, rows))
 
     def find_between(self, layer: str, column: str, least: Value | None = None, greatest: Value | None = None) -> list[int]:
         """The features with a value in a column that lies between two ends, or at one of them; one end may be left out.
@@ -526,7 +526,7 @@ class Editor:
         [1]
         """
         rows = self._rows(f"match {spelling.name(layer)} {spelling.pattern(pattern)} {spelling.geometry(wkt)}")
-        return [int(row) for row in rows]
+        return list(map(int, rows))
 
     def query(self, layer: str, predicate: Predicate, wkt: str) -> list[int]:
         """The features of which a predicate holds with the given geometry.
@@ -541,7 +541,7 @@ class Editor:
         [1]
         """
         rows = self._rows(f"query {spelling.name(layer)} {spelling.one_of(Predicate, predicate)} {spelling.geometry(wkt)}")
-        return [int(row) for row in rows]
+        return list(map(int, rows))
 
     def near(self, layer: str, distance: int | Decimal, wkt: str) -> list[int]:
         """The features that have a point no farther than a distance from one of the given geometry, over all points of both.
@@ -559,7 +559,7 @@ class Editor:
         [1]
         """
         rows = self._rows(f"query {spelling.name(layer)} near {spelling.distance(distance)} {spelling.geometry(wkt)}")
-        return [int(row) for row in rows]
+        return list(map(int, rows))
 
     def nearest(self, layer: str, count: int, wkt: str) -> list[Near]:
         """The features of a layer that are nearest to the given geometry, at most so many, the nearest first.
@@ -603,7 +603,7 @@ class Editor:
         """
         end = f" until {spelling.name(until[0])} {spelling.ask(until[1])}" if until else ""
         rows = self._rows(f"reach {spelling.name(layer)} {spelling.ask(ask)} {spelling.identifiers(feature_ids)}{end}")
-        return [int(row) for row in rows]
+        return list(map(int, rows))
 
     def join(self, layer: str, ask: str, other: str) -> Iterator[tuple[int, int]]:
         """The pairs of features of two layers, or of one with itself, that are as asked.
@@ -784,6 +784,12 @@ class Editor:
         if self._look is not None:
             self._look(line)
         return encoded
+
+    def _all_encoded(self, lines: Sequence[str]) -> list[bytes]:
+        """Lines as they are sent, as `_encoded` makes each."""
+        if self._program.has_group or self._look is not None:
+            return [self._encoded(line) for line in lines]
+        return spelling.all_encoded(lines, self._address)
 
     def _features(self, layer: str, word: str, which: str) -> list[Feature]:
         """The features that a question gives, of which the columns are asked first: a row has no types."""

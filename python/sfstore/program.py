@@ -33,6 +33,7 @@ _OUTPUT_BYTES = 65_536
 
 # No answer, and no row of one, begins so.
 _LAST_WORDS = ("fault serve ", "fault words ", "fault load ", "fault journal ", "fault save ", "error: ")
+_LAST_LETTERS = {words[0] for words in _LAST_WORDS}
 
 # A question that may be answered as an edit is.
 _CHECK = re.compile(rb"[ \t]*(?:@[0-9]{1,3}[ \t]+)?check[ \t]")
@@ -140,7 +141,7 @@ class Program:
         self._last_line = ""
         try:
             self._unsent = memoryview(b"".join(lines))
-            return [self._outcome(line) for line in lines]
+            return self._outcomes(lines)
         except (BrokenPipeError, EOFError):
             self._drain()
             raise self._ending() from None
@@ -192,24 +193,36 @@ class Program:
         """How the program ended."""
         return ProgramEnded(self._process.returncode, self._last_line)
 
-    def _outcome(self, line: bytes) -> Answer | Refused:
-        """Reads the answer of a line."""
-        first = self._read_line()
-        if first.startswith("rows "):
-            return [self._read_line() for _ in range(int(first[5:]))]
-        if first.startswith("refused "):
-            return _refusal(first, line[:-1].decode("utf-8"))
-        return first
+    def _outcomes(self, lines: Sequence[bytes]) -> list[Answer | Refused]:
+        """Reads the answers of lines."""
+        found: list[Answer | Refused] = []
+        for line in lines:
+            [first] = self._read_lines(1)
+            # Most answers are one line, of which nothing else is to be known.
+            if first[:1] != "r":
+                found.append(first)
+            elif first.startswith("rows "):
+                found.append(self._read_lines(int(first[5:])))
+            elif first.startswith("refused "):
+                found.append(_refusal(first, line[:-1].decode("utf-8")))
+            else:
+                found.append(first)
+        return found
 
-    def _read_line(self) -> str:
-        """Reads a line of an answer. `EOFError` where the program ends instead."""
-        while not self._lines:
-            self._send()
-            self._take()
-        self._last_line = line = self._lines.popleft()
-        if line.startswith(_LAST_WORDS):
-            raise EOFError
-        return line
+    def _read_lines(self, count: int) -> list[str]:
+        """Reads so many lines of answers. `EOFError` where the program ends instead."""
+        known, found = self._lines, []
+        for _ in range(count):
+            while not known:
+                self._send()
+                self._take()
+            line = known.popleft()
+            if line[:1] in _LAST_LETTERS and line.startswith(_LAST_WORDS):
+                # It may have come behind the answer before.
+                self._last_line = line
+                raise EOFError
+            found.append(line)
+        return found
 
     def _send(self) -> None:
         """Sends until all is sent, or something can be read."""
@@ -229,6 +242,7 @@ class Program:
             self._rest += rest
             return
         self._lines.extend((self._rest + whole).decode("utf-8").split("\n"))
+        self._last_line = self._lines[-1]
         self._rest = rest
 
     def _drain(self) -> None:

@@ -11,6 +11,7 @@ from sfstore.groups import lines_of, size_of
 from sfstore.language import DISTANCE_LIMIT, DISTANCE_PLACES, EDITOR_MAX, IDENTIFIER_MAX, IDENTIFIERS_MAX, NAME, PATTERN, PREDICATES, distance_asked
 
 __all__ = [
+    "all_encoded",
     "count",
     "distance",
     "editor",
@@ -25,6 +26,10 @@ __all__ = [
     "pattern",
     "vertex",
 ]
+
+# How many lines are looked at together, and what no plain line has: of a group, of a blank line, or two kinds of ends.
+_TOGETHER = 4_096
+_ODD = ("together", "\r", " \n", "\t\n", "\n\n")
 
 
 def encoded(line: str, address: str = "") -> bytes:
@@ -42,6 +47,22 @@ def encoded(line: str, address: str = "") -> bytes:
     if "together" in sent:
         sent = _with_members(sent)
     return sent.encode("utf-8") + b"\n"
+
+
+def all_encoded(lines: Sequence[str], address: str = "") -> list[bytes]:
+    """Lines as they are sent, each as `encoded` makes it."""
+    found: list[bytes] = []
+    for begin in range(0, len(lines), _TOGETHER):
+        found += _part_encoded(lines[begin : begin + _TOGETHER], address)
+    return found
+
+
+def _part_encoded(lines: Sequence[str], address: str) -> list[bytes]:
+    """As `all_encoded`: most lines are plain, and are looked at together."""
+    text = address + f"\n{address}".join(lines) + "\n"
+    if text.count("\n") != len(lines) or any(odd in text for odd in _ODD) or text.startswith("\n"):
+        return [encoded(line, address) for line in lines]
+    return text.encode("utf-8").splitlines(keepends=True)
 
 
 def _with_members(sent: str) -> str:

@@ -6,8 +6,9 @@ What is written here is for the program to load: it decides whether it is a file
 from __future__ import annotations
 
 import struct
+from abc import abstractmethod
 from array import array
-from collections.abc import Iterator, Mapping, Sequence
+from collections.abc import Callable, Iterator, Mapping, Sequence
 from dataclasses import dataclass, field
 from datetime import date, datetime, time, timedelta, timezone
 from decimal import Decimal
@@ -29,11 +30,14 @@ __all__ = [
     "FileColumn",
     "FileFeature",
     "FileLayer",
+    "Recorded",
     "fault_words",
+    "feature_of",
     "field_at",
     "is_store",
     "read",
     "read_with_rules",
+    "record_of",
     "write",
 ]
 
@@ -74,6 +78,14 @@ class FileFeature(NamedTuple):
     """The values by the numbers of their columns."""
 
 
+class Recorded(Sequence[FileFeature]):
+    """Features that have their bytes already."""
+
+    @abstractmethod
+    def records(self) -> Iterator[bytes]:
+        """What a file has of each."""
+
+
 @dataclass
 class FileLayer:
     """A layer, with all that the file has of it."""
@@ -97,7 +109,8 @@ def write(file: BinaryIO, layers: list[FileLayer]) -> None:
             file.write(struct.pack(">HB", column.number, column.type) + _name(column.name))
         file.write(struct.pack(">I", len(layer.features)))
         types = {column.number: column.type for column in layer.columns}
-        file.writelines(_feature(feature, types) for feature in layer.features)
+        features = layer.features
+        file.writelines(features.records() if isinstance(features, Recorded) else (record_of(feature, types) for feature in features))
     file.write(_NO_RULES)
 
 
@@ -105,29 +118,50 @@ def _name(name: str) -> bytes:
     return struct.pack(">B", len(name)) + name.encode("ascii")
 
 
-def _feature(feature: FileFeature, types: Mapping[int, int]) -> bytes:
-    parts = [struct.pack(">II", feature.id, len(feature.geometry)), feature.geometry]
-    parts.append(struct.pack(">H", len(feature.values)))
-    for number, value in sorted(feature.values.items()):
-        parts.append(struct.pack(">H", number) + _value_bytes(value, types[number]))
+def record_of(feature: FileFeature, types: Mapping[int, int]) -> bytes:
+    """What a file has of a feature, by the types of the columns. `struct.error` where a number has no place in its field."""
+    identifier, geometry, known = feature
+    parts = [_HEAD.pack(identifier, len(geometry)), geometry, _SHORT.pack(len(known))]
+    parts += [_PACKED[types[number]](number, value) for number, value in sorted(known.items())]
     return b"".join(parts)
 
 
-def _value_bytes(value: Value, kind: int) -> bytes:
-    """A value as a column of a type has it."""
-    if kind == TEXT:
-        text = cast(str, value).encode("utf-8")
-        return struct.pack(">H", len(text)) + text
-    if kind == DECIMAL:
-        return _DECIMAL.pack(*values.mantissa_and_places(Decimal(cast(Decimal, value))))
-    if kind == BOOL:
-        return _BYTE.pack(cast(bool, value))
-    if kind == DATE:
-        return _date_bytes(cast(date, value))
-    if kind == DATETIME:
-        moment = values.in_utc(cast(datetime, value))
-        return _date_bytes(moment) + _MILLISECONDS.pack((moment - _midnight(moment)) // _MILLISECOND)
-    return _LONG.pack(value)
+def _whole_bytes(number: int, value: Value) -> bytes:
+    return _SHORT_LONG.pack(number, value)
+
+
+def _text_bytes(number: int, value: Value) -> bytes:
+    text = cast(str, value).encode("utf-8")
+    return _SHORT_SHORT.pack(number, len(text)) + text
+
+
+def _decimal_bytes(number: int, value: Value) -> bytes:
+    exact = value if isinstance(value, Decimal) else Decimal(cast(int, value))
+    return _SHORT_DECIMAL.pack(number, *values.mantissa_and_places(exact))
+
+
+def _truth_bytes(number: int, value: Value) -> bytes:
+    return _SHORT_BYTE.pack(number, value)
+
+
+def _day_bytes(number: int, value: Value) -> bytes:
+    return _SHORT.pack(number) + _date_bytes(cast(date, value))
+
+
+def _moment_bytes(number: int, value: Value) -> bytes:
+    moment = values.in_utc(cast(datetime, value))
+    return _SHORT.pack(number) + _date_bytes(moment) + _MILLISECONDS.pack((moment - _midnight(moment)) // _MILLISECOND)
+
+
+# What a column of each type has of a value, behind its number.
+_PACKED: dict[int, Callable[[int, Value], bytes]] = {
+    INT: _whole_bytes,
+    TEXT: _text_bytes,
+    DECIMAL: _decimal_bytes,
+    BOOL: _truth_bytes,
+    DATE: _day_bytes,
+    DATETIME: _moment_bytes,
+}
 
 
 def _date_bytes(day: date) -> bytes:
@@ -179,8 +213,10 @@ def fault_words(path: str, last: str) -> str:
     return f"place {place}, {name}: {bad_field(name, number)} ({number})"
 
 
-_HEAD, _BYTE, _SHORT, _LONG = struct.Struct(">II"), struct.Struct(">B"), struct.Struct(">H"), struct.Struct(">q")
+_HEAD, _SHORT, _LONG = struct.Struct(">II"), struct.Struct(">H"), struct.Struct(">q")
 _DECIMAL, _DATE, _MILLISECONDS = struct.Struct(">qB"), struct.Struct(">HBB"), struct.Struct(">I")
+_SHORT_SHORT, _SHORT_LONG = struct.Struct(">HH"), struct.Struct(">Hq")
+_SHORT_DECIMAL, _SHORT_BYTE = struct.Struct(">HqB"), struct.Struct(">HB")
 _MILLISECOND = timedelta(milliseconds=1)
 _WIDTHS = {INT: 8, DECIMAL: 9, BOOL: 1, DATE: 4, DATETIME: 8}
 """How many bytes a value of each type has; a text says itself how many."""
@@ -254,18 +290,22 @@ class _Features(Sequence[FileFeature]):
 
     def _at(self, at: int) -> FileFeature:
         """The feature at a place."""
-        data = self._data
-        identifier, length = _HEAD.unpack_from(data, at)
-        geometry, at = data[at + 8 : at + 8 + length], at + 8 + length
-        (count,) = _SHORT.unpack_from(data, at)
-        at += 2
-        found: dict[int, Value] = {}
-        for _ in range(count):
-            (column,) = _SHORT.unpack_from(data, at)
-            kind = self._types[column]
-            found[column] = _value_at(data, at + 2, kind)
-            at = _behind_value(data, at + 2, kind)
-        return FileFeature(identifier, geometry, found)
+        return feature_of(self._data, at, self._types)
+
+
+def feature_of(data: bytes, at: int, types: Mapping[int, int]) -> FileFeature:
+    """The feature that begins at a place, by the types of the columns."""
+    identifier, length = _HEAD.unpack_from(data, at)
+    geometry, at = data[at + 8 : at + 8 + length], at + 8 + length
+    (count,) = _SHORT.unpack_from(data, at)
+    at += 2
+    found: dict[int, Value] = {}
+    for _ in range(count):
+        (column,) = _SHORT.unpack_from(data, at)
+        kind = types[column]
+        found[column] = _value_at(data, at + 2, kind)
+        at = _behind_value(data, at + 2, kind)
+    return FileFeature(identifier, geometry, found)
 
 
 _VALUE_NAMES = {

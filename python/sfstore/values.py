@@ -131,6 +131,11 @@ def mantissa_and_places(number: Decimal) -> tuple[int, int]:
     >>> mantissa_and_places(Decimal("-812.50"))
     (-8125, 1)
     """
+    # Of most numbers the text says it, which has neither an exponent nor too many digits.
+    whole, _, part = str(number).partition(".")
+    part = part.rstrip("0")
+    if len(whole) + len(part) < _DIGITS_MAX and (whole + part).lstrip("-").isdecimal():
+        return int(whole + part), len(part)
     sign, digits, exponent = number.as_tuple()
     if not isinstance(exponent, int):
         raise ValueError(f"{number} is no number with digits")

@@ -12,7 +12,8 @@ import re
 from collections import Counter
 from collections.abc import Callable, Mapping
 from decimal import Decimal
-from typing import Any, NamedTuple
+from functools import partial
+from typing import Any, NamedTuple, cast
 
 from sfstore.exchange import flatgeobuf, ogr
 from sfstore.exchange.asking import asked, quoted, tells_apart
@@ -23,12 +24,13 @@ from sfstore.exchange.layers import Fault, Feature, Left, SourceColumns
 from sfstore.exchange.moments import day_of, moment_of, text_of_day, text_of_moment, text_of_time
 from sfstore.exchange.names import Names, kept_name
 from sfstore.exchange.shapefiles import foreign_columns, odd_values
+from sfstore.exchange.spool import Features
 from sfstore.exchange.stored import MAKERS, Made, whole_of
 from sfstore.exchange.tables import columns_of, confused, table_of
 from sfstore.language import TEXT_MAX
 from sfstore.results import Value
 from sfstore.sidecar import ColumnOrigin
-from sfstore.storefile import BOOL, DATETIME, DECIMAL, INT, TEXT, FileColumn, FileFeature
+from sfstore.storefile import BOOL, DATETIME, DECIMAL, INT, TEXT, FileColumn
 from sfstore.storefile import DATE as FILE_DATE
 
 __all__ = ["Fields", "text_fault"]
@@ -48,6 +50,8 @@ _DAY_FORM = "[0-9][0-9][0-9][0-9]-[0-9][0-9]-[0-9][0-9]"
 _TIME_FORM = "[0-9][0-9]:[0-9][0-9]:[0-9][0-9]"
 
 _BINARY = "Binary"
+# A text of so many characters has room, whatever these are.
+_SURELY_SHORT = TEXT_MAX // 4
 
 # SQLite keeps a value of any kind in a column of any type. These say which are of the column's type.
 _FITTING = {
@@ -130,6 +134,24 @@ class _Field(NamedTuple):
         return MAKERS.get(self.type)
 
 
+class _Reading(NamedTuple):
+    """How the values of a column are read."""
+
+    number: int
+    place: int
+    read: Callable[[Any, int], Any]
+    """A value of a feature, at a place, as OGR has it: a number, or a text; none where that is not UTF-8."""
+    maker: Callable[[Any], Made] | None
+    is_text: bool
+    """Whether the column becomes one of texts where a value is none of its type."""
+    field: _Field
+
+    @property
+    def is_kept_as_text(self) -> bool:
+        """Whether nobody knows before the last value what each becomes."""
+        return self.is_text and self.maker is not None
+
+
 class Fields(SourceColumns):
     """The columns of one layer."""
 
@@ -157,6 +179,7 @@ class Fields(SourceColumns):
         self._broken: set[int] = set()
         self._changed: Counter[tuple[str, str]] = Counter()
         self._fields: list[_Field] = []
+        self._known_readings: list[_Reading] = []
         self._origins: dict[int, ColumnOrigin] = {}
         self._take(names)
         self._odd: dict[tuple[int, int], tuple[str, str | None]] = {}
@@ -164,63 +187,82 @@ class Fields(SourceColumns):
     def values(self, read: Feature) -> tuple[dict[int, Any], list[Fault]]:
         """The values of a feature by the numbers of their columns, and what is left out of them.
 
-        Numbers, days and moments are as the source has them, until `finished` has made values of the store of them.
+        Where a column may become one of texts, they are texts that say what the source has, until `finished`.
         """
         values: dict[int, Any] = {}
         faults: list[Fault] = []
         identifier, feature = read.identifier, read.content
-        for field in self._fields:
-            odd = self._odd.get((identifier, field.place)) if self._odd else None
-            if odd is None and not feature.IsFieldSetAndNotNull(field.place):
+        for reading in self._readings():
+            number, place, read_at, maker, _, field = reading
+            odd = self._odd.get((identifier, place)) if self._odd else None
+            if odd is None and not feature.IsFieldSetAndNotNull(place):
                 continue
             if odd is not None and odd[1] is None:
                 reason = f"a value that is none of the column's type {field.source_type}"
                 faults.append(Fault(reason, f"the value {odd[0]} of column {field.name} is left out"))
                 continue
-            value = _read(feature, field) if odd is None else odd[1]
-            fault = self._fault(field, value)
+            value = read_at(feature, place) if odd is None else odd[1]
+            fault = ""
+            if maker is not None:
+                value, fault = self._made(reading, maker, value)
+            elif not isinstance(value, int):
+                fault = _text_fault(value)
             if fault:
                 faults.append(Fault(fault, f"the value of column {field.name} is left out"))
                 continue
-            values[field.number] = value
+            values[number] = value
         return values, faults
 
-    def _fault(self, field: _Field, value: Any) -> str:
-        """Why the store can't have a value, or nothing. Where its column becomes one of texts, those are the measure."""
-        maker = field.maker
-        if maker is None:
-            return "" if isinstance(value, int) else _text_fault(value)
-        if field.number not in self._broken:
-            fault = self._made(field, maker(value)).fault
-            if not fault or not self._is_text(field.name):
-                return fault
-            self._broken.add(field.number)
-        return _text_fault(_text_of(value))
+    def _readings(self) -> list[_Reading]:
+        """How the columns are read. That stands when the first feature is read: `find_odd` may leave some out."""
+        if not self._known_readings:
+            self._known_readings = [
+                _Reading(field.number, field.place, _reader_of(field), field.maker, self._is_text(field.name), field)
+                for field in self._fields
+            ]
+        return self._known_readings
 
-    def _made(self, field: _Field, made: Made) -> Made:
-        """The value of the store that a value of the source is. What was done to it is counted."""
-        if made.change:
-            self._changed[field.name, made.change] += 1
-        return made
+    def _made(self, reading: _Reading, maker: Callable[[Any], Made], value: Any) -> tuple[Any, str]:
+        """A value as it is kept, and why the store can't have it, or nothing.
 
-    def finished(self, features: list[FileFeature]) -> tuple[list[FileColumn], list[FileFeature], list[ColumnOrigin]]:
+        Where its column may become one of texts, those are the measure.
+        """
+        if reading.number not in self._broken:
+            found, fault, change = maker(value)
+            if change:
+                self._changed[reading.field.name, change] += 1
+            if not reading.is_text:
+                return found, fault
+            if not fault:
+                return _kept(value), ""
+            self._broken.add(reading.number)
+        return _kept(value), _text_fault(_text_of(value))
+
+    def types(self) -> dict[int, int]:
+        return {reading.number: TEXT if reading.is_kept_as_text else reading.field.type for reading in self._readings()}
+
+    def finished(self, features: Features) -> tuple[list[FileColumn], Features, list[ColumnOrigin]]:
         """The columns at the end, the features with them, and what the columns were in the source."""
         # Those that were left out have no number.
         new = {field.number: number for number, field in enumerate(self._fields, 1)}
         columns = [FileColumn(new[field.number], self._final_type(field), field.name) for field in self._fields]
-        makers: dict[int, Callable[[Any], Any]] = {}
-        for field in self._fields:
-            if self._final_type(field) == TEXT and field.source_type in _NUMBERS:
-                makers[field.number] = _text_of
-            elif field.maker and field.number not in self._broken:
-                makers[field.number] = field.maker
+        makers = {reading.number: self._finisher(reading) for reading in self._readings() if reading.is_kept_as_text}
         if makers or any(number != old for old, number in new.items()):
-            features = [feature._replace(values=_settled(feature.values, makers, new)) for feature in features]
+            types = {column.number: column.type for column in columns}
+            features = features.changed(lambda each: each._replace(values=_settled(each.values, makers, new)), types)
         self.notes += [
             f"column {name}: {count:,} {'value is' if count == 1 else 'values are'} {change}"
             for (name, change), count in self._changed.items()
         ]
         return columns, features, [self._origins[field.number] for field in self._fields]
+
+    def _finisher(self, reading: _Reading) -> Callable[[str], Value]:
+        """What makes a value of the store of the text that a value of the source was kept as."""
+        maker = reading.maker
+        if maker is None or reading.number in self._broken:
+            return lambda text: _text_of(_said(text))
+        made = maker
+        return lambda text: cast(Value, made(_said(text)).value)
 
     def demands(self) -> dict[str, frozenset[Demanded]]:
         """What the source demands of the columns that are taken, by their names; of those of which it demands something."""
@@ -383,6 +425,7 @@ class Fields(SourceColumns):
         reason = f"a column with {count} values that are none of its type {field.source_type} is left out"
         self.left.append(Left(f"{reason}, since no identifiers say of which features", [field.source_name]))
         self._fields.remove(field)
+        self._known_readings.clear()
 
     def _odd_text(self, field: _Field, shown: str) -> str | None:
         """The text of a value that OGR would change, as SQL writes it; none where it is no value of the column's type."""
@@ -431,13 +474,15 @@ def _unquoted(shown: str) -> str | None:
     return shown[1:-1].replace("''", "'") if shown.startswith("'") and shown.endswith("'") else None
 
 
-def _read(feature: Any, field: _Field) -> int | float | str | None:
-    """A value of a feature as OGR has it: a number, or a text; none where that is not UTF-8."""
+def _reader_of(field: _Field) -> Callable[[Any, int], Any]:
+    """What reads a value of a column, of a feature and at a place."""
     if field.source_type in (INTEGER, INTEGER_64):
-        return int(feature.GetFieldAsInteger64(field.place))
+        return lambda feature, place: feature.GetFieldAsInteger64(place)
+    if field.source_type == REAL and field.type == TEXT:
+        return lambda feature, place: _text_of(feature.GetFieldAsDouble(place))
     if field.source_type == REAL:
-        return float(feature.GetFieldAsDouble(field.place))
-    return _text(feature, field)
+        return lambda feature, place: feature.GetFieldAsDouble(place)
+    return partial(_text, _texts_of(field))
 
 
 def _text_of(value: float | int | str) -> str:
@@ -449,50 +494,58 @@ def _text_fault(text: Any) -> str:
     """Why a text that was read is none of the store, or nothing."""
     if text is None:
         return "a text that is not UTF-8"
-    return text_fault(_text_of(text))
+    return text_fault(text if isinstance(text, str) else _text_of(text))
 
 
-def _settled(
-    values: Mapping[int, Any], makers: Mapping[int, Callable[[Any], Any]], new: Mapping[int, int]
-) -> dict[int, Value]:
+def _settled(values: Mapping[int, Any], makers: Mapping[int, Callable[[Any], Value]], new: Mapping[int, int]) -> dict[int, Value]:
     """Values as the store has them, by the columns' new numbers."""
-    return {new[number]: _made(value, makers.get(number)) for number, value in values.items() if number in new}
+    return {new[number]: makers[number](value) if number in makers else value for number, value in values.items()}
 
 
-def _made(value: Any, maker: Callable[[Any], Any] | None) -> Any:
-    found = value if maker is None else maker(value)
-    return found.value if isinstance(found, Made) else found
+def _kept(value: float | int | str) -> str:
+    """A value of a source as a text, until it is known what it becomes. No text of a source has a byte 0."""
+    if isinstance(value, str):
+        return value
+    return f"\0{value!r}" if isinstance(value, float) else f"\0\0{value}"
 
 
-def _text(feature: Any, field: _Field) -> str | None:
+def _said(text: str) -> float | int | str:
+    """The value of a source that `_kept` has made a text of."""
+    if text.startswith("\0\0"):
+        return int(text[2:])
+    return float(text[1:]) if text.startswith("\0") else text
+
+
+def _text(read: Callable[[Any, int], str], feature: Any, place: int) -> str | None:
     """The value of a feature as text, or none where it is not UTF-8."""
     try:
-        text = _plain_text(feature, field)
-        text.encode("utf-8")
+        text = read(feature, place)
+        if not text.isascii():
+            text.encode("utf-8")
     except UnicodeError:
         return None
     return text
 
 
-def _plain_text(feature: Any, field: _Field) -> str:
-    place = field.place
+def _texts_of(field: _Field) -> Callable[[Any, int], str]:
+    """What reads a value of a column as text. `UnicodeError` where it is not UTF-8."""
     if field.source_type == DATE:
-        return text_of_day(feature.GetFieldAsDateTime(place))
+        return lambda feature, place: text_of_day(feature.GetFieldAsDateTime(place))
     if field.source_type == DATE_TIME:
-        return text_of_moment(feature.GetFieldAsDateTime(place))
+        return lambda feature, place: text_of_moment(feature.GetFieldAsDateTime(place))
     if field.source_type == "Time":
-        return text_of_time(feature.GetFieldAsDateTime(place))
+        return lambda feature, place: text_of_time(feature.GetFieldAsDateTime(place))
     if field.is_list:
-        return json.dumps(feature.GetField(place), ensure_ascii=False)
+        return lambda feature, place: json.dumps(feature.GetField(place), ensure_ascii=False)
     if field.source_type == _BINARY:
-        return bytes(feature.GetFieldAsBinary(place)).hex()
-    return str(feature.GetFieldAsString(place))
+        return lambda feature, place: bytes(feature.GetFieldAsBinary(place)).hex()
+    return lambda feature, place: str(feature.GetFieldAsString(place))
 
 
 def text_fault(text: str) -> str:
     """Why a text is none of the store, or nothing."""
     if "\0" in text:
         return "a text with a byte 0"
-    if len(text.encode("utf-8")) > TEXT_MAX:
+    if len(text) > _SURELY_SHORT and len(text.encode("utf-8")) > TEXT_MAX:
         return f"a text of more than {TEXT_MAX} bytes"
     return ""

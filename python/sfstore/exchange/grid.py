@@ -94,6 +94,27 @@ class Grid:
         `OffGrid` where one is no step, unless rounding is asked for: the nearest step is taken then. What is moved,
         or taken for a step, is counted in ``rounding``. `Outside` where one is too far from the origin.
         """
+        found = self._steps_of_all(places)
+        return self._steps_of_each(places, rounding) if found is None else found
+
+    def _steps_of_all(self, places: Sequence[float]) -> list[int] | None:
+        """The steps of doubles that are all on the grid, which most are; none where one is not, or is too far."""
+        origin, step, denominator = self._origin, self._step, self._denominator
+        (near_x, near_y), near_step = self._near_origin, self._near_step
+        found = [0] * len(places)
+        try:
+            found[::2] = [round((x - near_x) / near_step) for x in places[::2]]
+            found[1::2] = [round((y - near_y) / near_step) for y in places[1::2]]
+        except (ValueError, OverflowError):
+            return None
+        if found and (min(found) < LEAST or max(found) > MOST):
+            return None
+        doubles = [(origin[0] + k * step) / denominator for k in found[::2]]
+        others = [(origin[1] + k * step) / denominator for k in found[1::2]]
+        return found if doubles == list(places[::2]) and others == list(places[1::2]) else None
+
+    def _steps_of_each(self, places: Sequence[float], rounding: Rounding | None) -> list[int]:
+        """As `steps`, one by one."""
         origin, step, denominator = self._origin, self._step, self._denominator
         near_origin, near_step = self._near_origin, self._near_step
         found = []

@@ -104,6 +104,7 @@ class Wishes:
             self.parts_collections,
             self.mends,
             keeps_identifiers,
+            os.path.dirname(os.path.realpath(self.target)),
         )
 
 

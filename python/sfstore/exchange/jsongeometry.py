@@ -5,6 +5,7 @@ from __future__ import annotations
 import math
 import struct
 from decimal import Decimal
+from itertools import chain
 from typing import Any
 
 from sfstore.exchange.ogr import printable
@@ -15,16 +16,44 @@ KINDS = ["", "Point", "LineString", "Polygon", "MultiPoint", "MultiLineString", 
 """The types of geometries, by the codes of well-known binary."""
 
 _COLLECTION = 7
+_NUMBERS = {int, Decimal}
 # What a code is greater by, by how many numbers a position has.
 _WIDTHS = {2: 0, 3: 1000, 4: 3000}
 
 
 def binary(geometry: Any) -> bytes:
     """The binary of a geometry. `ValueError` with words where it is none, `RecursionError` where it is nested deeply."""
+    plain = _plain(geometry)
+    if plain is not None:
+        return plain
     width = max(_width_of(geometry), 2)
     if width not in _WIDTHS:
         raise ValueError(f"a position of {width} numbers")
     return _binary(geometry, width)
+
+
+def _plain(geometry: Any) -> bytes | None:
+    """The binary of a line or an area whose positions have two numbers each, as most geometries are; none of others."""
+    kind, coordinates = (geometry.get("type"), geometry.get("coordinates")) if isinstance(geometry, dict) else ("", None)
+    if type(coordinates) is not list:
+        return None
+    if kind == "LineString":
+        line = _plain_line(coordinates)
+        return None if line is None else struct.pack("<BI", 1, 2) + line
+    if kind != "Polygon":
+        return None
+    rings = [found for ring in coordinates if (found := _plain_line(ring)) is not None]
+    return _written(3, rings) if len(rings) == len(coordinates) else None
+
+
+def _plain_line(line: Any) -> bytes | None:
+    """A list of positions of two numbers each; none where it is another one."""
+    if type(line) is not list or not all(type(position) is list for position in line):
+        return None
+    numbers = list(chain.from_iterable(line))
+    if not set(map(len, line)) <= {2} or not set(map(type, numbers)) <= _NUMBERS:
+        return None
+    return struct.pack(f"<I{len(numbers)}d", len(line), *numbers)
 
 
 def _width_of(geometry: Any) -> int:

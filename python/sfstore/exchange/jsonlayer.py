@@ -8,10 +8,12 @@ from __future__ import annotations
 
 import os
 import re
+from array import array
 from collections import Counter
 from collections.abc import Iterator, Mapping
 from dataclasses import dataclass, field
 from decimal import Decimal
+from functools import cached_property
 from typing import Any, NamedTuple
 
 from sfstore.exchange import ogr
@@ -21,11 +23,12 @@ from sfstore.exchange.jsongeometry import KINDS, binary
 from sfstore.exchange.jsontext import Repeated, members, object_of, text_of
 from sfstore.exchange.layers import STRANGER, Fault, Feature, Layer, Lost, SourceColumns
 from sfstore.exchange.names import Names, kept_name
+from sfstore.exchange.spool import Features, are_distinct
 from sfstore.exchange.stored import MAKERS, decimal_of
 from sfstore.language import IDENTIFIER_MAX, INT_MAX, INT_MIN
 from sfstore.results import Value
 from sfstore.sidecar import ColumnOrigin, Crs
-from sfstore.storefile import BOOL, DECIMAL, INT, TEXT, FileColumn, FileFeature
+from sfstore.storefile import BOOL, DECIMAL, INT, TEXT, FileColumn
 
 __all__ = ["JsonLayer"]
 
@@ -45,6 +48,7 @@ _IDENTIFIER = "id"
 # In which order the kinds of values are told.
 _KINDS_OF_VALUES = ["whole numbers", "real numbers", "booleans", "texts", "objects", "lists"]
 _WHOLE, _REAL, _BOOLEAN, _TEXT, _OBJECT, _LIST = _KINDS_OF_VALUES
+_KINDS_BY_TYPE = {bool: _BOOLEAN, int: _WHOLE, str: _TEXT, dict: _OBJECT, Repeated: _OBJECT, list: _LIST}
 _NUMBERS, _NESTED = {_WHOLE, _REAL}, {_OBJECT, _LIST}
 
 
@@ -76,7 +80,8 @@ class _Column:
         kind = _kind_of(value)
         self.kinds.add(kind)
         if kind in _NUMBERS:
-            self.fits = self.fits and not decimal_of(value).fault
+            is_one = INT_MIN <= value <= INT_MAX if type(value) is int else not decimal_of(value).fault
+            self.fits = self.fits and is_one
             self.is_short = self.is_short and _SHORT_MIN <= value <= _SHORT_MAX
 
     @property
@@ -104,7 +109,7 @@ class _Survey:
     """The members of its collection, but for the features."""
     count: int = 0
     columns: dict[str, _Column] = field(default_factory=dict)
-    identifiers: set[int] = field(default_factory=set)
+    identifiers: array[int] = field(default_factory=lambda: array("q"))
     """The identifiers that the store can have."""
     identifier: _Column = field(default_factory=_Column)
     """What all identifiers are."""
@@ -129,7 +134,7 @@ class _Survey:
         if feature.identifier is not None:
             self.identifier.add(feature.identifier)
             if type(feature.identifier) is int and 0 <= feature.identifier < IDENTIFIER_MAX:
-                self.identifiers.add(feature.identifier)
+                self.identifiers.append(feature.identifier)
         kind = feature.geometry.get("type") if isinstance(feature.geometry, dict) else None
         if kind in KINDS:
             self.kinds.add(KINDS.index(kind))
@@ -138,10 +143,10 @@ class _Survey:
             if value is not None:
                 column.add(value)
 
-    @property
+    @cached_property
     def keeps_identifiers(self) -> bool:
-        """Whether each feature has an identifier of its own that the store can have."""
-        return len(self.identifiers) == self.count
+        """Whether each feature has an identifier of its own that the store can have. It is asked once all are added."""
+        return len(self.identifiers) == self.count and are_distinct(self.identifiers)
 
     @property
     def system(self) -> Mapping[str, Any]:
@@ -389,9 +394,9 @@ def _crs(head: Mapping[str, Any]) -> Crs | None:
 
 
 def _kind_of(value: Any) -> str:
-    for types, kind in ((bool, _BOOLEAN), (int, _WHOLE), (str, _TEXT), (dict, _OBJECT), (list, _LIST)):
-        if isinstance(value, types):
-            return kind
+    kind = _KINDS_BY_TYPE.get(type(value))
+    if kind is not None:
+        return kind
     # A whole number of many digits is no real one.
     return _WHOLE if isinstance(value, Decimal) and value.as_tuple().exponent == 0 else _REAL
 
@@ -465,9 +470,15 @@ class _Columns(SourceColumns):
                 values[taken.number] = stored
         return values, faults
 
-    def finished(self, features: list[FileFeature]) -> tuple[list[FileColumn], list[FileFeature], list[ColumnOrigin]]:
-        taken = [*self._taken.values(), *([self._identifiers] if self._identifiers else [])]
-        return [FileColumn(each.number, each.type, each.name) for each in taken], features, self._origins
+    def types(self) -> dict[int, int]:
+        return {each.number: each.type for each in self._all_taken}
+
+    def finished(self, features: Features) -> tuple[list[FileColumn], Features, list[ColumnOrigin]]:
+        return [FileColumn(each.number, each.type, each.name) for each in self._all_taken], features, self._origins
+
+    @property
+    def _all_taken(self) -> list[_Taken]:
+        return [*self._taken.values(), *([self._identifiers] if self._identifiers else [])]
 
 
 def _type(column: _Column, as_text: bool, wanted: str) -> int:

@@ -11,9 +11,10 @@ from collections.abc import Callable, Iterator, Mapping, Sequence
 from typing import Any, NamedTuple
 
 from sfstore.exchange.constraints import Demanded
+from sfstore.exchange.spool import Features
 from sfstore.exchange.stamps import Stamps
 from sfstore.sidecar import ColumnOrigin, Crs
-from sfstore.storefile import FileColumn, FileFeature
+from sfstore.storefile import FileColumn
 
 __all__ = ["STRANGER", "Fault", "Feature", "Layer", "Left", "Lost", "SourceColumns", "Source"]
 
@@ -81,11 +82,18 @@ class SourceColumns(ABC):
         return {}
 
     @abstractmethod
+    def types(self) -> dict[int, int]:
+        """The types of the store that the values have which `values` gives, by the numbers of their columns.
+
+        They stand behind `find_odd`.
+        """
+
+    @abstractmethod
     def values(self, feature: Feature) -> tuple[dict[int, Any], list[Fault]]:
         """The values of a feature by the numbers of their columns, and what is left out of them."""
 
     @abstractmethod
-    def finished(self, features: list[FileFeature]) -> tuple[list[FileColumn], list[FileFeature], list[ColumnOrigin]]:
+    def finished(self, features: Features) -> tuple[list[FileColumn], Features, list[ColumnOrigin]]:
         """The columns at the end, the features with them, and what the columns were in the source."""
 
 

@@ -166,7 +166,10 @@ def _next_features(layer: Any) -> list[tuple[Any, str]]:
 
 def _fault(module: Any) -> str:
     """Why the last call has failed, or nothing. What it has warned of is told: of several warnings the last, and their count."""
-    level, text = module.GetLastErrorType(), module.GetLastErrorMsg()
+    level = module.GetLastErrorType()
+    if level < _WARNING:
+        return ""
+    text = module.GetLastErrorMsg()
     if level >= _FAILURE:
         return text or "no reason is told"
     if level == _WARNING:

@@ -2,7 +2,8 @@
 
 from __future__ import annotations
 
-from collections.abc import Callable, Iterator, Mapping
+from array import array
+from collections.abc import Callable, Iterator, Mapping, Sequence
 from typing import Any, NamedTuple
 
 from sfstore.exchange import ogr
@@ -13,6 +14,7 @@ from sfstore.exchange.layers import Feature, Layer
 from sfstore.exchange.mending import mended
 from sfstore.exchange.names import Names, kept_name
 from sfstore.exchange.reports import Report
+from sfstore.exchange.spool import Features, are_distinct
 from sfstore.exchange.wayback import LeftLayer
 from sfstore.faults import fault_at
 from sfstore.geometry import KINDS, NotTaken, Shape, read_wkb, write_wkb, write_wkt
@@ -29,6 +31,8 @@ _LAST_ID = IDENTIFIER_MAX - 1
 # How many features are asked of the program at a time, and how many bytes their geometries have then at most, but for
 # the last one: a point takes ten times as much here.
 _BATCH, _BATCH_BYTES = 2_000, 4_000_000
+# A binary of so many bytes has no more points than a store takes.
+_SURELY_SMALL = 16 * POINTS_MAX
 # How much of a feature's name is shown.
 _NAME_SHOWN = 40
 
@@ -54,6 +58,8 @@ class Taking(NamedTuple):
     """Whether geometries that the program refuses are mended."""
     keeps_identifiers: bool = True
     """Whether features have the source's identifiers in the store. Else the store gives its own."""
+    folder: str = ""
+    """Where features are kept while they are read, in a file; where the system has room for such files if it is empty."""
 
 
 class _Candidate(NamedTuple):
@@ -101,8 +107,8 @@ class LayerImport:
         self._fields = layer.columns(taking.as_text, self._names, known)
         self._origins: list[ColumnOrigin] = []
         self._columns: list[FileColumn] = []
-        self._identifiers: list[int] = []
-        self._features: list[FileFeature] = []
+        self._identifiers = array("q")
+        self._features = Features("", {})
         self._further: list[int] = []
         self._kinds: set[int] = set()
         self._source_of: Callable[[int], int] = lambda identifier: identifier
@@ -113,6 +119,9 @@ class LayerImport:
             self._note(f"column {source_name!r} has the name {name}")
         with Store(self._taking.program) as scratch:
             self._fields.find_odd()
+            types = self._fields.types()
+            self._check_columns(len(types))
+            self._features = Features(self._taking.folder, types)
             scratch.add_layer("c", self._taken_kind)
             for batch in self._batches():
                 self._judge(scratch, batch)
@@ -121,17 +130,21 @@ class LayerImport:
             self._note(note)
         self._make_multi()
         self._number_features()
-        if len(self._columns) > COLUMNS_MAX:
-            shown = f"{ogr.printable(self._source_name)} has {len(self._columns):,} columns"
-            raise ogr.ExchangeError(f"{shown}, and a layer of the store at most {COLUMNS_MAX:,}")
+        self._check_columns(len(self._columns))
         self._tell()
         # It is held until all layers are written: what was needed to read it is not.
-        self._identifiers.clear()
+        del self._identifiers[:]
         self._fields.forget_odd()
-        next_id = self._features[-1].id + 1 if self._features else 1
+        next_id = self._features.ids[-1] + 1 if self._features else 1
         layer = FileLayer(self._name, self._kind(), next_id, len(self._columns) + 1, self._columns)
         layer.features = self._features
         return layer
+
+    def _check_columns(self, count: int) -> None:
+        """`ogr.ExchangeError` where a layer of the store has no room for so many columns."""
+        if count > COLUMNS_MAX:
+            shown = f"{ogr.printable(self._source_name)} has {count:,} columns"
+            raise ogr.ExchangeError(f"{shown}, and a layer of the store at most {COLUMNS_MAX:,}")
 
     @property
     def source_name(self) -> str:
@@ -150,7 +163,7 @@ class LayerImport:
     def origin(self) -> LayerOrigin:
         """What the side-car keeps of the layer."""
         told = self._report.identifiers(self._source_name)
-        taken = {self._source_of(feature.id) for feature in self._features} if told else set()
+        taken = set(map(self._source_of, self._features.ids)) if told else set()
         return LayerOrigin(
             self._name,
             kept_name(self._layer.name, self._name),
@@ -216,7 +229,7 @@ class LayerImport:
         reason, detail = "", ""
         try:
             found = read_wkb(flat)
-            count = sum(len(line) // 2 for member in found.members for line in member)
+            count = _count(found) if len(flat) > _SURELY_SMALL else 0
             if count <= POINTS_MAX:
                 return self._fitted(found.mapped(lambda line: self._grid.steps(line, self._rounding)))
             reason, detail = "too many points", f"{count:,} points, at most {POINTS_MAX:,}"
@@ -264,8 +277,7 @@ class LayerImport:
         """A shape that the program takes in the place of one that it does not, which is told; none where there is none."""
 
         def is_taken(shape: Shape) -> bool:
-            count = sum(len(line) // 2 for member in shape.members for line in member)
-            if count > POINTS_MAX:
+            if _count(shape) > POINTS_MAX:
                 return False
             [answer] = scratch.run_all([f"check c {write_wkt(shape)}"])
             return not isinstance(answer, Refused)
@@ -288,11 +300,16 @@ class LayerImport:
             return
         single, multi = sorted(self._kinds)
         count = 0
-        for at, feature in enumerate(self._features):
+
+        def as_multi(feature: FileFeature) -> FileFeature:
+            nonlocal count
             shape = read_wkb(feature.geometry)
-            if shape.code == single:
-                count += 1
-                self._features[at] = feature._replace(geometry=write_wkb(shape._replace(code=multi)))
+            if shape.code != single:
+                return feature
+            count += 1
+            return feature._replace(geometry=write_wkb(shape._replace(code=multi)))
+
+        self._features = self._features.changed(as_multi)
         self._kinds = {multi}
         self._note(f"the layer is one of {KINDS[multi]}s: {count} of its features have one member")
 
@@ -304,15 +321,15 @@ class LayerImport:
         identifiers = self._identifiers
         least, most = min(identifiers, default=1), max(identifiers, default=1)
         shift = 1 if least == 0 else 0
-        sources = [feature.id for feature in self._features]
-        if len(set(identifiers)) < len(identifiers) or least < 0 or most + shift + len(self._further) > _LAST_ID:
+        sources = self._features.ids
+        if not are_distinct(identifiers) or least < 0 or most + shift + len(self._further) > _LAST_ID:
             self._note("the features are numbered anew from 1, in the source's order")
-            numbers = list(range(1, len(sources) + 1))
+            numbers = array("q", range(1, len(sources) + 1))
             is_kept = False
         else:
             if shift:
                 self._note("identifiers begin with 0 in the source: each is greater by 1")
-            numbers = [number + shift for number in sources]
+            numbers = array("q", (number + shift for number in sources))
             is_kept = not shift
             for at, place in enumerate(self._further, 1):
                 numbers[place] = most + shift + at
@@ -322,8 +339,7 @@ class LayerImport:
             self._note(f"identifiers that the store can't have are in the column {name}")
         if numbers != sources:
             self._source_of = _sources_of(numbers, sources)
-            self._features = [feature._replace(id=number) for feature, number in zip(self._features, numbers)]
-        self._features.sort(key=lambda feature: feature.id)
+        self._features = self._features.numbered(numbers)
 
     def _keep_identifiers_again(self) -> None:
         """Has identifiers in the column of the store's layer that has those of the features before, where it has such a one."""
@@ -338,7 +354,8 @@ class LayerImport:
         number = len(self._columns) + 1
         self._columns.append(FileColumn(number, INT, name))
         self._origins.append(ColumnOrigin(name, kept_name(self._layer.identifier_column, name), INTEGER_64, "None", 0))
-        self._features = [feature._replace(values={**feature.values, number: feature.id}) for feature in self._features]
+        types = {**self._features.types, number: INT}
+        self._features = self._features.changed(lambda each: each._replace(values={**each.values, number: each.id}), types)
 
     def _kind(self) -> int:
         """The declared kind where all features have it, that of a Shapefile's Multi forms, else that any is taken."""
@@ -390,12 +407,17 @@ class LayerImport:
         self._report.note(self._source_name, text)
 
 
+def _count(shape: Shape) -> int:
+    """How many points a shape has."""
+    return sum(len(line) // 2 for member in shape.members for line in member)
+
+
 def with_word(why: NotTaken) -> str:
     """Why a geometry is not taken, with the word of the command that helps."""
     return f"{why}{_WORDS.get(str(why), '')}"
 
 
-def _sources_of(numbers: list[int], sources: list[int]) -> Callable[[int], int]:
+def _sources_of(numbers: Sequence[int], sources: Sequence[int]) -> Callable[[int], int]:
     """What gives a source's identifier by that in the store."""
     if all(number == source + 1 for number, source in zip(numbers, sources)):
         return lambda identifier: identifier - 1

@@ -18,6 +18,8 @@ from sfstore.storefile import BOOL, DATE, DATETIME, DECIMAL
 __all__ = ["MAKERS", "Made", "decimal_of", "whole_of"]
 
 
+# A number of so many characters is one of the store.
+_SHORT = 18
 _IN_PARTS = "a moment with parts of a millisecond"
 # More parts of a second than Python has.
 _FINE = re.compile(r":[0-9]{2}\.[0-9]{7}", re.ASCII)
@@ -39,6 +41,10 @@ def decimal_of(number: float | int | Decimal | str) -> Made:
     >>> decimal_of(812.5), decimal_of(1e-20).fault, decimal_of(-0.0).fault
     (Made(value=Decimal('812.5'), fault='', change=''), 'a number with more than 18 places', 'minus zero')
     """
+    if isinstance(number, float):
+        text = repr(number)
+        if len(text) <= _SHORT and number and text.replace(".", "").lstrip("-").isdecimal():
+            return Made(Decimal(int(number) if number.is_integer() else text))
     if isinstance(number, float) and not math.isfinite(number):
         return Made(None, "no number")
     found = _decimal(number)

@@ -13,6 +13,7 @@ from typing import Any
 from sfstore.exchange.formats import RULES_MAX, Part
 from sfstore.exchange.grid import Grid
 from sfstore.exchange.ruling import rule_said
+from sfstore.exchange.spool import changed
 from sfstore.language import COLUMN_TYPES, NAME
 from sfstore.rules import AnyRule
 from sfstore.sidecar import LayerOrigin
@@ -161,9 +162,8 @@ def take_counters(layer: FileLayer, told: LeftLayer) -> None:
         layer.columns = [
             column._replace(number=renumbered[column.number]) for column in layer.columns
         ]
-        layer.features = [
-            feature._replace(values={renumbered[key]: feature.values[key] for key in feature.values})
-            for feature in layer.features
-        ]
+        if any(old != new for old, new in renumbered.items()):
+            types = {column.number: column.type for column in layer.columns}
+            layer.features = changed(layer.features, lambda each: each._replace(values={renumbered[key]: each.values[key] for key in each.values}), types)
         layer.next_column = told.next_column
     layer.next_id = max(layer.next_id, told.next_id)

@@ -8,11 +8,11 @@ from __future__ import annotations
 
 import time
 import zlib
-from collections.abc import Sequence
-from typing import NamedTuple
+from collections.abc import Iterable, Sequence
+from functools import lru_cache
+from typing import NamedTuple, Protocol
 
 from sfstore.extents import Box, rectangle
-from sfstore.geometry import read_wkb
 from sfstore.language import GRID_MAX, GRID_MIN
 from sfstore.store import Editor, Refused
 from sfstore.web import raster
@@ -31,6 +31,26 @@ _FEATURES_MAX = 20_000
 _KEPT_MAX = 4_096
 # An edit that meets more tiles has its layer's pictures drawn anew.
 _MET_MAX = 1_000
+
+
+class _Way(Protocol):
+    """A way of drawing. All ways draw the same."""
+
+    def draw_all(self, cells: bytearray, geometries: Iterable[str], left: int, bottom: int, size: int) -> None:
+        """Draws geometries, as `raster.draw_all` does."""
+
+    def coarsened(self, quarters: Sequence[bytes]) -> bytearray:
+        """The picture of twice the size, as `raster.coarsened` has it."""
+
+
+@lru_cache(maxsize=1)
+def _way() -> _Way:
+    """The quickest way that is there. It is looked for when the first picture is drawn: numpy takes time and memory."""
+    try:
+        from sfstore.web import rasterarrays
+    except ImportError:
+        return raster
+    return rasterarrays
 
 
 class Tile(NamedTuple):
@@ -135,7 +155,7 @@ class Pictures:
                 part = self.of(store, layer, quarter, until)
             parts.append(part.cells if part else b"")
             is_whole = is_whole and part is not None and part.is_whole
-        cells = bytes(raster.coarsened(parts)) if any(parts) else b""
+        cells = bytes(_way().coarsened(parts)) if any(parts) else b""
         return self._made(cells, count, is_whole)
 
     def _made(self, cells: bytes, count: int, is_whole: bool) -> Picture:
@@ -170,8 +190,7 @@ def _traced(store: Editor, layer: str, features: list[int], tile: Tile) -> bytes
         return b""
     cells = raster.blank()
     left, bottom = tile.x * tile.size, tile.y * tile.size
-    for digits in hexes_of(store, [(layer, feature) for feature in features]):
-        raster.draw(cells, read_wkb(bytes.fromhex(digits)), left, bottom, 1 << tile.level)
+    _way().draw_all(cells, hexes_of(store, [(layer, feature) for feature in features]), left, bottom, 1 << tile.level)
     return bytes(cells)
 
 

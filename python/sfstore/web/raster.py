@@ -8,12 +8,12 @@ from __future__ import annotations
 
 import struct
 import zlib
-from collections.abc import Sequence
+from collections.abc import Iterable, Sequence
 from math import ceil, floor
 
-from sfstore.geometry import Shape
+from sfstore.geometry import Shape, read_wkb
 
-__all__ = ["EDGE", "INSIDE", "SIDE", "blank", "coarsened", "draw", "png"]
+__all__ = ["EDGE", "INSIDE", "SIDE", "WIDE", "blank", "coarsened", "draw", "draw_all", "png"]
 
 SIDE = 256
 """Cells to a side of a picture."""
@@ -21,8 +21,9 @@ SIDE = 256
 EDGE, INSIDE = 255, 90
 # What is within an area hides no edge of another one.
 _FILLED = bytes([INSIDE, *range(1, 256)])
-# Areas of fewer cells to a side are all edge.
-_WIDE = 4
+
+WIDE = 4
+"""Areas of fewer cells to a side are all edge."""
 
 Line = Sequence[float]
 
@@ -32,8 +33,17 @@ def blank() -> bytearray:
     return bytearray(SIDE * SIDE)
 
 
+def draw_all(cells: bytearray, geometries: Iterable[str], left: int, bottom: int, size: int) -> None:
+    """Draws geometries, as the store has them in hexadecimal, into the picture whose least corner this is.
+
+    Its cells have so many grid steps to a side.
+    """
+    for digits in geometries:
+        draw(cells, read_wkb(bytes.fromhex(digits)), left, bottom, size)
+
+
 def draw(cells: bytearray, shape: Shape, left: int, bottom: int, size: int) -> None:
-    """Draws a geometry into the picture whose least corner this is, with cells of so many grid steps."""
+    """Draws one geometry, as `draw_all` does."""
     for member in shape.members:
         if _is_dot(cells, member[0], left, bottom, size):
             continue
@@ -64,7 +74,7 @@ def _in_cells(line: Line, left: int, bottom: int, size: int) -> list[tuple[float
 
 def _is_wide(ring: list[tuple[float, float]]) -> bool:
     xs, ys = zip(*ring)
-    return bool(max(xs) - min(xs) >= _WIDE and max(ys) - min(ys) >= _WIDE)
+    return bool(max(xs) - min(xs) >= WIDE and max(ys) - min(ys) >= WIDE)
 
 
 def _trace(cells: bytearray, line: list[tuple[float, float]]) -> None:

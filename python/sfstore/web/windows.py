@@ -7,7 +7,7 @@ simplified, and where there is more than a page can show, it is counted.
 from __future__ import annotations
 
 from collections.abc import Iterator, Sequence
-from typing import Any
+from typing import Any, cast
 
 from sfstore.extents import Box, rectangle
 from sfstore.geometry import read_wkb
@@ -86,12 +86,13 @@ def hexes_of(store: Editor, features: Sequence[tuple[str, int]]) -> Iterator[str
     begin, count = 0, _FIRST_PART
     while begin < len(features):
         part = features[begin : begin + count]
-        longest = 1
-        for answer in store.run_all(f"hex {layer} {feature}" for layer, feature in part):
+        answers = store.run_all([f"hex {layer} {feature}" for layer, feature in part])
+        for answer in answers:
             if isinstance(answer, Refused):
                 raise answer
-            longest = max(longest, len(str(answer)))
-            yield str(answer)
+        hexes = cast("list[str]", answers)
+        yield from hexes
+        longest = max(map(len, hexes))
         begin += len(part)
         count = min(2 * count, _PART_MAX, max(_FIRST_PART, _DIGITS_MAX // longest))
 

@@ -9,6 +9,7 @@ import doctest
 import importlib
 import os
 import pickle
+import random
 import signal
 import subprocess
 import sys
@@ -30,7 +31,7 @@ import sfstore.language
 import sfstore.program
 import sfstore.results
 import sfstore.wkt
-from sfstore import Column, Feature, Layer, ProgramEnded, Refused, Store
+from sfstore import Column, Feature, Layer, ProgramEnded, Refused, Store, spelling
 
 SQUARE = "POLYGON ((0 0, 10 0, 10 10, 0 10, 0 0))"
 LINE_MAX = 4_194_304
@@ -552,6 +553,37 @@ class Refusals(TestCase):
         self.assertEqual(str(refused), "18 NoLayer: show w")
         self.assertEqual(repr(pickle.loads(pickle.dumps(refused))), repr(refused))
         self.assertLess(len(str(Refused(33, "LineTooLong", "x" * 200_000))), 300)
+
+
+class LinesAsTheyAreSent(unittest.TestCase):
+    """Many lines are sent as each by itself would be."""
+
+    LINES = ["add w POINT (1 2)", "", " ", "\t", "q ", "q\t", "x\r", "\r", "a\nb", "together 2\rundo\rundo", "together 1", "\ufeff\xe4 \xdf", "set w 1 n 'together'"]
+    LINES += ["x\x0b", "x\x85y", "x\u2028y", "a\x1cb", "x\x0c"]
+
+    def sent(self, lines, address):
+        try:
+            return [spelling.encoded(line, address) for line in lines]
+        except ValueError as error:
+            return str(error)
+
+    def sent_together(self, lines, address):
+        try:
+            return spelling.all_encoded(lines, address)
+        except ValueError as error:
+            return str(error)
+
+    def test_any_lines(self):
+        chance = random.Random(3)
+        for _ in range(3_000):
+            lines = chance.choices(self.LINES[:1] * 9 + self.LINES, k=chance.randrange(6))
+            for address in ("", "@2 "):
+                self.assertEqual(self.sent_together(lines, address), self.sent(lines, address), lines)
+
+    def test_more_lines_than_are_looked_at_together(self):
+        lines = [f"add w POINT ({at} 0)" for at in range(10_000)]
+        self.assertEqual(self.sent_together(lines, "@1 "), self.sent(lines, "@1 "))
+        self.assertEqual(self.sent_together([*lines, " "], ""), "the line is blank")
 
 
 class Batches(TestCase):

@@ -2,18 +2,23 @@
 
 from __future__ import annotations
 
+import os
 import random
+import subprocess
+import sys
 import time
+import tracemalloc
 import unittest
 import unittest.mock
 import zlib
+from importlib.util import find_spec
 
-from support import PROGRAM, TestCase
+from support import FOLDER, PROGRAM, TestCase
 from web_support import WebCase
 
 from sfstore import Store
-from sfstore.geometry import Shape, read_wkb
-from sfstore.language import POINTS_MAX
+from sfstore.geometry import Shape, read_wkb, write_wkb
+from sfstore.language import GRID_MAX, GRID_MIN, POINTS_MAX
 from sfstore.web import pictures, raster, windows
 from sfstore.web.changes import targets_of
 from sfstore.web.keeper import Edit
@@ -66,14 +71,19 @@ class Large:
         return [Digits(line.hex())] * count
 
 
+class Nothing:
+    """A way of drawing that reads geometries, and draws none."""
+
+    def draw_all(self, cells, geometries, left, bottom, size):
+        for _ in geometries:
+            pass
+
+
 class Digits(str):
     """Hexadecimal digits that say that they are many."""
 
     def __len__(self):
         return Large.DIGITS
-
-    def __str__(self):
-        return self
 
 
 class Sizes(unittest.TestCase):
@@ -88,7 +98,7 @@ class Sizes(unittest.TestCase):
 
     def test_a_picture_has_few_in_memory_together(self):
         store = Large()
-        with unittest.mock.patch.object(pictures, "read_wkb", lambda data: SQUARE), unittest.mock.patch.object(raster, "draw"):
+        with unittest.mock.patch.object(pictures, "_way", Nothing):
             Pictures().of(store, "w", Tile(0, 0, 0), time.monotonic() + 60)
         self.assertEqual(store.asked, 999)
         self.assertLessEqual(store.most, 64_000_000)
@@ -155,6 +165,125 @@ class Raster(unittest.TestCase):
         self.assertEqual(len(rows), SIDE * (1 + 2 * SIDE))
         opaque = b"".join(rows[at + 2 : at + 1 + 2 * SIDE : 2] for at in range(0, len(rows), 1 + 2 * SIDE))
         self.assertEqual(opaque, cells)
+
+
+class SameByNumpy(unittest.TestCase):
+    """Pictures by numpy are those by Python alone, cell by cell."""
+
+    LEAST, MOST = GRID_MIN, GRID_MAX
+
+    def setUp(self):
+        super().setUp()
+        if find_spec("numpy") is None:
+            self.skipTest("numpy is missing")
+        from sfstore.web import rasterarrays
+
+        self.arrays = rasterarrays
+
+    def same(self, shapes, left=0, bottom=0, size=1):
+        """The cells of a picture, which both ways have alike."""
+        hexes = [write_wkb(shape).hex() for shape in shapes]
+        cells, others = raster.blank(), raster.blank()
+        raster.draw_all(cells, hexes, left, bottom, size)
+        self.arrays.draw_all(others, hexes, left, bottom, size)
+        self.assertEqual(marked(others), marked(cells))
+        return cells
+
+    def point(self, chance, near, wide):
+        return [min(self.MOST, max(self.LEAST, at + chance.randrange(-wide, wide + 1))) for at in near]
+
+    def line(self, chance, near, wide, count):
+        return [number for _ in range(count) for number in self.point(chance, near, wide)]
+
+    def ring(self, chance, near, wide):
+        found = self.line(chance, near, wide, chance.randrange(3, 9))
+        return found + found[:2]
+
+    def member(self, chance, code):
+        near = chance.choice([(0, 0), (128, 128), (chance.randrange(-3000, 3000), chance.randrange(-3000, 3000))])
+        near = chance.choice([near, near, [chance.choice([self.LEAST, self.MOST]) for _ in "xy"]])
+        wide = chance.choice([1, 3, 10, 100, 300, 3000, 100_000, 2**29])
+        if code == 1:
+            return [self.point(chance, near, wide)]
+        if code == 2:
+            return [self.line(chance, near, wide, chance.randrange(2, 9))]
+        return [self.ring(chance, near, wide) for _ in range(chance.choice([1, 1, 1, 2, 3]))]
+
+    def shape(self, chance):
+        code = chance.randrange(1, 7)
+        count = 1 if code < 4 else chance.choice([1, 1, 2, 3, 7])
+        return Shape(code, [self.member(chance, code if code < 4 else code - 3) for _ in range(count)])
+
+    def test_random_maps(self):
+        seen = set()
+        for seed in range(400):
+            chance = random.Random(seed)
+            shapes = [self.shape(chance) for _ in range(chance.choice([1, 1, 2, 5, 40]))]
+            size = 1 << chance.choice([0, 0, 1, 2, 3, 5, 8, 15, 22, 23])
+            side = SIDE * size
+            corners = [(0, 0), (-side, -side), (0, -side), (self.LEAST, self.LEAST), (self.LEAST // side * side, self.MOST // side * side)]
+            with self.subTest(seed=seed):
+                seen |= set(self.same(shapes, *chance.choice(corners), size))
+        self.assertEqual(seen, {0, raster.INSIDE, raster.EDGE})
+
+    def test_slivers_dots_and_what_lies_on_the_border(self):
+        slivers = [Shape(3, [[[at, 0, at + 1, 400, at, 400, at, 0]]]) for at in range(-3, 260, 7)]
+        flat = [Shape(3, [[[-50, at, 300, at, 300, at + 1, -50, at]]]) for at in range(-3, 260, 7)]
+        border = [Shape(3, [[[0, 0, SIDE, 0, SIDE, SIDE, 0, SIDE, 0, 0]]]), Shape(2, [[[-1, -1, SIDE, -1]]]), Shape(1, [[[SIDE - 1, 0]]])]
+        for shapes in (slivers, flat, border, slivers + flat + border):
+            for size in (1, 2, 64, 1 << 23):
+                self.same(shapes, 0, 0, size)
+        self.same(slivers + flat, 1 - SIDE, 1 - SIDE)
+
+    def test_a_hole_stays_empty_and_an_area_hides_no_edge(self):
+        ring, hole = [5, 5, 200, 5, 200, 200, 5, 200, 5, 5], [50, 50, 50, 100, 100, 100, 100, 50, 50, 50]
+        cells = self.same([Shape(2, [[[60, 60, 150, 60]]]), Shape(3, [[ring, hole]]), Shape(2, [[[20, 20, 150, 20]]])])
+        found = marked(cells)
+        self.assertNotIn((70, 70), found)
+        self.assertEqual((found[60, 60], found[20, 20], found[30, 30]), (raster.EDGE, raster.EDGE, raster.INSIDE))
+
+    def test_maps_that_are_drawn_in_several_parts(self):
+        chance = random.Random(13)
+        shapes = [self.shape(chance) for _ in range(60)] + [Shape(2, [[self.line(chance, (128, 128), 500, 3_000)]])]
+        with unittest.mock.patch.multiple(self.arrays, _DIGITS=1_000, _PLACES=500):
+            self.same(shapes)
+            self.same(shapes, -SIDE * 8, 0, 8)
+
+    def test_no_features_are_an_empty_picture(self):
+        self.assertEqual(self.same([]), raster.blank())
+
+    def test_a_million_places_take_a_bounded_memory(self):
+        chance = random.Random(14)
+        hexes = [write_wkb(Shape(2, [[self.line(chance, (128, 128), 128, 20_000)]])).hex()] * 4
+        cells = raster.blank()
+        self.arrays.draw_all(cells, hexes[:1], 0, 0, 1)
+        tracemalloc.start()
+        try:
+            self.arrays.draw_all(cells, hexes, 0, 0, 1)
+            _, most = tracemalloc.get_traced_memory()
+        finally:
+            tracemalloc.stop()
+        self.assertLess(most, 40_000_000)
+
+    def test_pictures_of_quarters(self):
+        chance = random.Random(15)
+        for _ in range(20):
+            quarters = [bytes(chance.choices([0, 0, 0, raster.INSIDE, raster.EDGE], k=SIDE * SIDE)) if chance.random() < 0.7 else b"" for _ in range(4)]
+            self.assertEqual(self.arrays.coarsened(quarters), raster.coarsened(quarters))
+
+    def test_pictures_are_drawn_without_numpy_too(self):
+        code = (
+            "import sys\n"
+            "sys.modules['numpy'] = None\n"
+            "from sfstore.web import pictures, raster\n"
+            "print(pictures._way() is raster)\n"
+        )
+        environment = {**os.environ, "PYTHONPATH": str(FOLDER)}
+        ended = subprocess.run([sys.executable, "-c", code], env=environment, capture_output=True, text=True, check=True)
+        self.assertEqual(ended.stdout, "True\n")
+
+    def test_pictures_are_drawn_by_numpy_where_it_is(self):
+        self.assertIs(pictures._way(), self.arrays)
 
 
 class Tiles(unittest.TestCase):
