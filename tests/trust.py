@@ -45,6 +45,8 @@ HEADLINE: list[tuple[str, list[str]]] = [
     ("sf_keeping/src/keeping.rt", ["serve_kept"]),
     ("sf_keeping/src/replaying.rt", ["replay"]),
     ("sf_keeping/src/laws.rt", []),
+    ("sf_session/src/session.rt", ["run_session"]),
+    ("sf_session/src/laws.rt", []),
     ("sf_folder/src/saving.rt", ["save"]),
     ("sf_folder/src/journals.rt", ["renew"]),
     ("sf_folder/src/choosing.rt", ["choose"]),
@@ -58,6 +60,7 @@ TRAITS: list[tuple[str, str]] = [
     ("sf_run/src/files.rt", "RunFiles"),
     ("sf_console/src/outlet.rt", "Outlet"),
     ("sf_keeping/src/desk.rt", "Desk"),
+    ("sf_session/src/home.rt", "Home"),
     ("sf_folder/src/folder.rt", "Folder"),
     ("sf_folder/src/beside.rt", "Source"),
 ]
@@ -75,14 +78,14 @@ SUBJECTS: list[tuple[str, list[str]]] = [
         "Features, layers, edits and their inverses",
         ["sf_decimals", "sf_dates", "sf_refusals", "sf_features", "sf_layers", "sf_steps", "sf_edits"],
     ),
-    ("Several edits as one step", ["sf_patches", "sf_groups", "sf_changes"]),
+    ("Several edits as one step", ["sf_patches", "sf_groups"]),
     ("Rules between features, and the history", ["sf_rules", "sf_ruled_store", "sf_history"]),
     (
         "Texts, binary and files",
         ["sf_text_lines", "sf_streams", "sf_wkt", "sf_wkb", "sf_format", "sf_loading", "sf_saving"],
     ),
     ("The session", ["sf_words", "sf_values", "sf_commands", "sf_command_laws", "sf_console", "sf_run"]),
-    ("The journal and the save", ["sf_journal", "sf_keeping", "sf_folder"]),
+    ("The journal and the save", ["sf_journal", "sf_session", "sf_keeping", "sf_folder"]),
 ]
 
 # How a file begins whose definitions compute what others mean, and one that no reader needs.

@@ -3,6 +3,6 @@ mod HeadLaws
 mod LeftLaws
 mod SaveLaws
 mod WritingLemmas
-mod Chains
+pub mod Chains
 mod RenewLaws
 mod Rows

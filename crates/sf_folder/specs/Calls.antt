@@ -1,15 +1,31 @@
--- What is asked of a folder, call by call.
+-- What is asked of the system for a store that is kept, call by call.
 use Rattle.std.specs.Prelude.{◌≡◌, ◌⊎◌, ℕ, List, [], ◌∷◌, ◌++◌, ⊤, Option, None, Some}
 use Rattle.sf_folder.specs.declared.names.Name.{Name}
 
--- a new empty file takes a name; bytes are put behind those of a file; a file is synced; a file takes another name, in
--- the place of the file that had it; the names are synced
+-- A new empty file takes a name; bytes are put behind those of a file; a file is synced; a file takes another name, in
+-- the place of the file that had it; the names are synced. The lock is taken. The store's file is not there; or it is opened to be
+-- read, with the bytes that it has, where they are known; nobody has written to it since. The bytes of a file are read, where it is
+-- there. Somebody is warned that a record is dropped. Bytes are put out. The store's file is known to be the one of this length and
+-- this SHA-256. What was asked of the lock or of a file is refused, or fails. A writing, a sync, or what puts bytes out fails: it may have
+-- taken place or not, and of the bytes a front
 pub data Call : Type 0 where
   Begins : Name → Call
   Writes : Name → List ℕ → Call
   SyncsFile : Name → Call
   Renames : Name → Name → Call
   SyncsFolder : Call
+  Locks : Call
+  FindsNone : Call
+  Opens : Option (List ℕ) → Call
+  Stays : Call
+  Reads : Name → Option (List ℕ) → Call
+  Warns : Call
+  Answers : List ℕ → Call
+  Knows : ℕ → List ℕ → Call
+  Refuses : Call
+  WriteFails : Name → List ℕ → Call
+  SyncFails : Name → Call
+  AnswerFails : List ℕ → Call
 
 -- a call, or a part of it: of a writing a front of its bytes
 abbrev pub IsPartOf : Call → Call → Type 0

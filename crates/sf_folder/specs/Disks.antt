@@ -54,7 +54,7 @@ abbrev pub renamed : Option ℕ → Name → Name → Disk → Disk
 renamed None from to disk = disk
 renamed (Some number) from to disk = changed (λ names. with_name to (Some number) (with_name from None names)) disk
 
--- a disk after a call
+-- a disk after a call: after one that asks nothing of it, or of which it isn't known what it did, it is as it was
 abbrev pub after_call : Disk → Call → Disk
 after_call disk (Begins name) =
     changed (with_name name (Some (length disk.files))) (record disk { files = disk.files ++ record { bytes = []; synced = 0 } ∷ [] })
@@ -62,6 +62,7 @@ after_call disk (Writes name bytes) = with_file_at (disk.names name) (λ file. r
 after_call disk (SyncsFile name) = with_file_at (disk.names name) (λ file. record file { synced = length file.bytes }) disk
 after_call disk (Renames from to) = renamed (disk.names from) from to disk
 after_call disk SyncsFolder = record disk { possible = disk.names ∷ [] }
+after_call disk other = disk
 
 -- a disk after calls
 abbrev pub after : Disk → List Call → Disk

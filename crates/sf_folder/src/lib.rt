@@ -23,5 +23,5 @@ pub use names::Name;
 pub use places::Places;
 pub use saving::save;
 pub use seen::Seen;
-pub use store_folder::{Known, StoreFolder};
+pub use store_folder::StoreFolder;
 pub use whole_file::WholeFile;

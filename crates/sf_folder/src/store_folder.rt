@@ -16,11 +16,11 @@ const UNFINISHED: u8 = b'!';
 
 /// What is known of the store's file: no other program is to have changed it when another file takes its place.
 #[derive(Clone, Copy, Debug)]
-pub struct Known {
+struct Known {
     /// None where there is no file.
-    pub seen: Option<Seen>,
-    /// The sum of its bytes, or of no bytes.
-    pub sum: FileSum,
+    seen: Option<Seen>,
+    /// The sum of its bytes; of no meaning where there is no file.
+    sum: FileSum,
 }
 
 /// The folder of a store's file. What was begun stays open for writing, also under its next name.
@@ -37,13 +37,19 @@ pub struct StoreFolder<'a, R: Files> {
 }
 
 impl<'a, R: Files> StoreFolder<'a, R> {
-    /// The folder with these places, and what is known of the store's file there. Nothing is done to it yet.
-    pub fn new(files: &'a R, alloc: Global, places: Places, known: Known) -> StoreFolder<'a, R> {
+    /// The folder with these places. Nothing is done to it yet, and no file of a store is known there.
+    pub fn new(files: &'a R, alloc: Global, places: Places) -> StoreFolder<'a, R> {
         StoreFolder {
             files,
             alloc,
             places,
-            known,
+            known: Known {
+                seen: None,
+                sum: FileSum {
+                    size: 0,
+                    digest: [0; 32],
+                },
+            },
             store: None,
             store_beside: None,
             journal: None,
@@ -65,9 +71,27 @@ impl<'a, R: Files> StoreFolder<'a, R> {
         Ok(Some(bytes))
     }
 
+    /// Where its files are.
+    pub fn places(&self) -> &Places {
+        &self.places
+    }
+
+    /// From now on the store's file is the one of which that is seen, with this sum.
+    pub fn know(&mut self, seen: Seen, sum: FileSum) {
+        self.known = Known {
+            seen: Some(seen),
+            sum,
+        };
+    }
+
     /// The store's file is the one that a save has just put there, with this sum.
     pub fn has_saved(&mut self, sum: FileSum) {
         self.known.sum = sum;
+    }
+
+    /// Whether that is seen of the store's file that is known.
+    pub fn is_known(&self, seen: Seen) -> bool {
+        self.known.seen == Some(seen)
     }
 
     /// Whether the store's file is still the one that is known. Where that can't be known from outside, its bytes are summed.

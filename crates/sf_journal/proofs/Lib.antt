@@ -1,5 +1,5 @@
 mod CrcLaws
-mod RecordLaws
+pub mod RecordLaws
 pub mod FeedLaws
 pub mod FrontLaws
 mod SumLaws

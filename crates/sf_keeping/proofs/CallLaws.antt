@@ -3,7 +3,7 @@ use Rattle.std.proofs.Common.{◌≡◌, ◌≢◌, ℕ, ◌+◌, false, nat_le,
 use Rattle.std.proofs.lemmas.Grind.{common_steps}
 use Rattle.sf_journal.specs.Records.{line_of, record_of}
 use Rattle.sf_keeping.specs.Desks.{Call, Makes}
-use Rattle.sf_keeping.specs.Desks.Call.{AnswerFails, Answers, Appends, Syncs}
+use Rattle.sf_keeping.specs.Desks.{AnswerFails, Answers, appends, syncs}
 use Rattle.sf_keeping.specs.Waiting.{Waiting, answering_calls, keeping_calls, nothing_waits}
 
 -- calls behind others
@@ -24,7 +24,7 @@ answering-some [] some = absurd (some refl)
 answering-some (b ∷ bytes) some = refl
 
 -- so are records kept by two
-keeping-some : (bytes : List ℕ) → bytes ≢ [] → keeping_calls bytes ≡ Appends bytes ∷ Syncs ∷ []
+keeping-some : (bytes : List ℕ) → bytes ≢ [] → keeping_calls bytes ≡ appends bytes ∷ syncs ∷ []
 keeping-some [] some = absurd (some refl)
 keeping-some (b ∷ bytes) some = refl
 
@@ -45,7 +45,7 @@ at_once_records was text bytes none is = ap (λ w. w.records ++ record_of was.su
 
 -- its answer could not be put out
 pub at_once_unanswered : (was : Waiting) (text bytes answer : List ℕ) → was ≡ nothing_waits was.sum → bytes ≡ record_of was.sum text
-    → Appends bytes ∷ Syncs ∷ AnswerFails answer ∷ [] ≡ keeping_calls (was.records ++ record_of was.sum text) ++ AnswerFails (was.answers ++ answer) ∷ []
+    → appends bytes ∷ syncs ∷ AnswerFails answer ∷ [] ≡ keeping_calls (was.records ++ record_of was.sum text) ++ AnswerFails (was.answers ++ answer) ∷ []
 at_once_unanswered was text bytes answer none is =
     sym (
     ap (λ w. keeping_calls (was.records ++ record_of was.sum text) ++ AnswerFails (w.answers ++ answer) ∷ []) none

@@ -9,3 +9,4 @@ pub mod TakingLaws
 pub mod ServingLaws
 pub mod ReplayLaws
 pub mod CarryingLaws
+pub mod ReplayedLaws

@@ -129,8 +129,17 @@ pub FailsAt-text : (first_sum : ℕ) (bytes rest : List ℕ) (old : Machine) (su
     → (fault ≡ Memory) ⊎ ((fault ≡ NotAccepted (length bytes - length rest)) × (changed mid (text_reading text) ≡ None)) → FailsAt first_sum bytes old fault
 FailsAt-text first_sum bytes rest old sum mid end text fault r feed is (inl memory) = subst (FailsAt first_sum bytes old) (sym memory) tt
 FailsAt-text first_sum bytes rest old sum mid end text fault r feed is (inr (place, none)) =
-    subst (FailsAt first_sum bytes old) (sym place)
-    (r.texts, text, drop (end + 1) rest, mid, parts_more first_sum bytes rest old sum mid end text r feed is, r.leads, place_of first_sum bytes rest old sum mid r, none)
+    subst (FailsAt first_sum bytes old) (sym place) (
+      r.texts,
+      text,
+      drop (end + 1) rest,
+      mid,
+      parts_more first_sum bytes rest old sum mid end text r feed is,
+      r.leads,
+      place_of first_sum bytes rest old sum mid r,
+      none,
+      all_more r.texts text r.unfed (unfed-back (mark_of (sum_with sum text)) text (subst HasNoFeed is feed.unfed)),
+    )
 
 -- the rest is no longer than the whole
 pub rest_fits : (first_sum : ℕ) (bytes rest : List ℕ) (old : Machine) (sum : ℕ) (new : Machine) → ReplaysSo first_sum bytes rest old sum new → length rest ≤ length bytes

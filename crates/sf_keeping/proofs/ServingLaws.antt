@@ -1,6 +1,6 @@
 -- From read to read of a session that is kept.
 use Rattle.std.proofs.Common.{◌≡◌, ℕ, true, false, inl, List, [], ◌∷◌, ◌++◌, Option, refl, sym, ap, ◌∙◌, subst, append_assoc, append-nil}
-use Rattle.std.proofs.KnownBytes.{Consumes-trans, Consumes-kept}
+use Rattle.std.proofs.KnownBytes.{Consumes-nil, Consumes-trans, Consumes-kept}
 use Rattle.std.specs.Io.KnownBytes.{Consumes, Keeps, IsAtEnd}
 use Rattle.sf_text_lines.specs.Lines.{lines_of, IsWhole}
 use Rattle.sf_text_lines.specs.Buffers.{IsBufferOf}
@@ -391,4 +391,21 @@ ServesKept-finish unread left ahead held start c1 c2 sum old mid new input was w
       moments = s.moments;
       standing = s.standing;
       behind_all = s.behind_all;
+    }
+
+-- no memory was found before anything was done
+pub EndsKept-none : (unread : Option (List ℕ)) (ahead : List ℕ) (start : Option (List Call)) (sum : ℕ) (old : Machine) → EndsKept Memory unread unread ahead start start sum old old
+EndsKept-none unread ahead start sum old =
+    let u = Underway-start start sum old in
+    record {
+      taken = [];
+      consumed = Consumes-nil unread;
+      asked = [];
+      later = requests_of (ahead ++ []);
+      first = refl;
+      ask_for_none = tt;
+      calls = u.calls;
+      makes = u.makes;
+      moments = u.moments;
+      ended = ap (λ standing. standing.broken) u.standing;
     }

@@ -8,7 +8,7 @@ use Rattle.sf_console.specs.Requests.{Request}
 use Rattle.sf_keeping.specs.declared.desk.KeepFault.{KeepFault}
 use Rattle.sf_keeping.specs.declared.desk.KeepFault.TheVariants.{Journal, Memory, Read, Write}
 use Rattle.sf_keeping.specs.Desks.{Call, Makes, Standing, nothing_yet, after_call, after_calls}
-use Rattle.sf_keeping.specs.Desks.Call.{AnswerFails, Answers, AppendFails, Appends, SyncFails, Syncs}
+use Rattle.sf_keeping.specs.Desks.{AnswerFails, Answers, append_fails, appends, sync_fails, syncs}
 use Rattle.sf_keeping.specs.Waiting.{Waiting, nothing_waits, with_text, with_answer, keeping_calls, answering_calls, committing_calls, IsBrokenOff}
 use Rattle.sf_keeping.specs.Kept.{IsKept, Keeps}
 use Rattle.sf_keeping.specs.Moments.{IsCovered, AtEachMoment}
@@ -141,21 +141,21 @@ led-keeping sum old mid last done since output answers texts later asked calls [
     (ap (λ k. record { kept = k; waiting = []; answered = output; broken = false }) (sym (records-append sum texts later ∙ ap (λ l. records sum texts ++ l) (sym is) ∙ append-nil (records sum texts))))
     (led-none sum old asked last calls (stands sum texts output) led)
 led-keeping sum old mid last done since output answers texts later asked calls (b ∷ bytes) parts did does is led =
-    let appends = Appends (b ∷ bytes) in
+    let appends = appends (b ∷ bytes) in
     let waits : Standing = record { kept = records sum texts; waiting = b ∷ bytes; answered = output; broken = false } in
     let first : AtEachMoment sum old asked last (calls ++ appends ∷ []) =
     moment sum old last asked calls appends (stands sum texts output) led.stands led.moments
     (covered-between sum old mid last done since output answers texts later asked output (b ∷ bytes) false parts did does (whole output) (subst (λ l. IsFrontOf (b ∷ bytes) l) is (whole (b ∷ bytes)))) in
     let stood : after_calls nothing_yet (calls ++ appends ∷ []) ≡ waits = standing-snoc calls (stands sum texts output) appends led.stands in
     let all : records sum texts ++ b ∷ bytes ≡ records sum (texts ++ later) = ap (λ l. records sum texts ++ l) is ∙ sym (records-append sum texts later) in
-    let synced : after_call waits Syncs ≡ stands sum (texts ++ later) output = ap (λ k. record { kept = k; waiting = []; answered = output; broken = false }) all in
-    let second : AtEachMoment sum old asked last ((calls ++ appends ∷ []) ++ Syncs ∷ []) =
-    moment sum old last asked (calls ++ appends ∷ []) Syncs waits stood first
+    let synced : after_call waits syncs ≡ stands sum (texts ++ later) output = ap (λ k. record { kept = k; waiting = []; answered = output; broken = false }) all in
+    let second : AtEachMoment sum old asked last ((calls ++ appends ∷ []) ++ syncs ∷ []) =
+    moment sum old last asked (calls ++ appends ∷ []) syncs waits stood first
     (subst (IsCovered sum old asked last) (sym synced)
     (covered-between sum old last last (done ++ since) [] (output ++ answers) [] (texts ++ later) [] asked output [] false (parts ∙ sym (append-nil (done ++ since)))
     (Keeps-append old mid last done since output answers texts later did does) (refl, refl, refl) (answers, refl) ([], refl))) in
-    subst (λ c. Led sum old asked last c (stands sum (texts ++ later) output)) (append_assoc calls (appends ∷ []) (Syncs ∷ []))
-    (record { moments = second; stands = standing-snoc (calls ++ appends ∷ []) waits Syncs stood ∙ synced })
+    subst (λ c. Led sum old asked last c (stands sum (texts ++ later) output)) (append_assoc calls (appends ∷ []) (syncs ∷ []))
+    (record { moments = second; stands = standing-snoc (calls ++ appends ∷ []) waits syncs stood ∙ synced })
 
 -- answers are put out, once all is kept
 led-answering : (sum : ℕ) (old last : Machine) (asked : List Request) (output answers : List ℕ) (texts : List (List ℕ)) (calls : List Call) (bytes : List ℕ)
@@ -233,18 +233,18 @@ Underway-broken fault start now next sum old asked waiting new calls u makes bro
     of_records = subst (λ l. IsFrontOf waiting.records l) (ap (λ w. w.records) u.waits) (whole waiting.records)
 
     -- where the records could not be appended or synced, and where they were and the answers could not be put out
-    at_append : AtEachMoment sum old asked new (u.calls ++ AppendFails waiting.records ∷ [])
-    at_append = moment sum old new asked u.calls (AppendFails waiting.records) (stands sum u.texts u.output) u.standing u.moments
+    at_append : AtEachMoment sum old asked new (u.calls ++ append_fails waiting.records ∷ [])
+    at_append = moment sum old new asked u.calls (append_fails waiting.records) (stands sum u.texts u.output) u.standing u.moments
         (covered-between sum old u.mid new u.done u.since u.output u.answers u.texts u.later asked u.output waiting.records true u.parts u.did u.does (whole u.output) of_records)
 
-    at_sync : AtEachMoment sum old asked new (u.calls ++ Appends waiting.records ∷ SyncFails ∷ [])
+    at_sync : AtEachMoment sum old asked new (u.calls ++ appends waiting.records ∷ sync_fails ∷ [])
     at_sync =
         let waits : Standing = record { kept = records sum u.texts; waiting = waiting.records; answered = u.output; broken = false } in
-        let first = moment sum old new asked u.calls (Appends waiting.records) (stands sum u.texts u.output) u.standing u.moments
+        let first = moment sum old new asked u.calls (appends waiting.records) (stands sum u.texts u.output) u.standing u.moments
         (covered-between sum old u.mid new u.done u.since u.output u.answers u.texts u.later asked u.output waiting.records false u.parts u.did u.does (whole u.output) of_records) in
-        let second = moment sum old new asked (u.calls ++ Appends waiting.records ∷ []) SyncFails waits (standing-snoc u.calls (stands sum u.texts u.output) (Appends waiting.records) u.standing) first
+        let second = moment sum old new asked (u.calls ++ appends waiting.records ∷ []) sync_fails waits (standing-snoc u.calls (stands sum u.texts u.output) (appends waiting.records) u.standing) first
         (covered-between sum old u.mid new u.done u.since u.output u.answers u.texts u.later asked u.output waiting.records true u.parts u.did u.does (whole u.output) of_records) in
-        subst (AtEachMoment sum old asked new) (append_assoc u.calls (Appends waiting.records ∷ []) (SyncFails ∷ [])) second
+        subst (AtEachMoment sum old asked new) (append_assoc u.calls (appends waiting.records ∷ []) (sync_fails ∷ [])) second
 
     at_answer : AtEachMoment sum old asked new (u.calls ++ keeping_calls waiting.records ++ AnswerFails waiting.answers ∷ [])
     at_answer =
@@ -268,7 +268,7 @@ Underway-broken fault start now next sum old asked waiting new calls u makes bro
     by : (fault : KeepFault) → IsBrokenOff fault waiting calls → BrokeBy fault (u.calls ++ calls)
     by Journal (inl is) = (u.calls, inr (waiting.records, ap (λ c. u.calls ++ c) is))
     by Journal (inr is) =
-        (u.calls ++ Appends waiting.records ∷ [], inl (ap (λ c. u.calls ++ c) is ∙ sym (append_assoc u.calls (Appends waiting.records ∷ []) (SyncFails ∷ []))))
+        (u.calls ++ appends waiting.records ∷ [], inl (ap (λ c. u.calls ++ c) is ∙ sym (append_assoc u.calls (appends waiting.records ∷ []) (sync_fails ∷ []))))
     by Write is =
         (u.calls ++ keeping_calls waiting.records, waiting.answers, ap (λ c. u.calls ++ c) is ∙ sym (append_assoc u.calls (keeping_calls waiting.records) (AnswerFails waiting.answers ∷ [])))
     by Read none = absurd none

@@ -1,5 +1,6 @@
--- The law of recovery: what a crash leaves of a journal.
+-- The laws of recovery and of replaying: what a crash leaves of a journal, and what an opening makes of it.
 use Rattle.std.specs.Prelude.{◌≡◌, ◌≢◌, ℕ, List, ◌++◌}
+use Rattle.sf_journal.specs.Records.{sum_behind}
 use Rattle.sf_journal.specs.Readings.{Ending, Reads}
 use Rattle.sf_journal.specs.Readings.Ending.{Damaged}
 use Rattle.sf_journal.specs.Fronts.{IsFrontOf}
@@ -9,6 +10,10 @@ use Rattle.sf_keeping.specs.Desks.{Standing}
 use Rattle.sf_keeping.specs.Changes.{Leads}
 use Rattle.sf_keeping.specs.Kept.{Keeps}
 use Rattle.sf_keeping.specs.Moments.{IsCovered}
+use Rattle.sf_keeping.specs.Replays.{FailsAt, IsReplayed}
+use Rattle.sf_keeping.specs.declared.replaying.ReplayFault.{ReplayFault}
+use Rattle.sf_keeping.specs.declared.replaying.ReplayFault.TheVariants.{Memory}
+use Rattle.sf_keeping.specs.declared.replaying.Replayed.{Replayed}
 
 -- what a crash leaves of a journal at this moment: all that is kept, and a front of what waits
 pub record IsLeft (standing : Standing) (bytes : List ℕ) : Type 0 where
@@ -36,3 +41,12 @@ abbrev pub RecoveryLaw : Type 0
 RecoveryLaw =
     (sum : ℕ) (old : Machine) (asked : List Request) (last : Machine) (standing : Standing) (bytes : List ℕ)
     → IsCovered sum old asked last standing → IsLeft standing bytes → IsRecovered sum old asked standing.answered bytes
+
+-- Bytes that read without damage, as texts that lead to a machine, are replayed to it and to the sum behind these texts; else memory ran
+-- out.
+abbrev pub ReplayLaw : Type 0
+ReplayLaw =
+    (sum : ℕ) (bytes : List ℕ) (texts : List (List ℕ)) (ending : Ending) (old last : Machine)
+    → Reads sum bytes texts ending → ending ≢ Damaged → Leads old texts last
+    → ((done : Replayed) (new : Machine) → IsReplayed sum bytes old done new → (new ≡ last) × (done.sum ≡ sum_behind sum texts))
+    × ((fault : ReplayFault) → FailsAt sum bytes old fault → fault ≡ Memory)

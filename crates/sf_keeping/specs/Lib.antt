@@ -1,3 +1,4 @@
+pub use Rattle.sf_console.specs.History
 pub mod Desks
 pub mod Waiting
 pub mod Inputs

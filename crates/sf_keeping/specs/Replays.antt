@@ -1,5 +1,7 @@
 -- What replaying the edits of a journal gives.
 use Rattle.std.specs.Prelude.{◌≡◌, ℕ, Bool, List, [], ◌∷◌, ◌++◌, length, None, if◌then◌else◌}
+use Rattle.std.specs.List.{AllByRecursion}
+use Rattle.sf_text_lines.specs.Lines.{HasNoFeed}
 use Rattle.sf_journal.specs.Records.{records, sum_behind}
 use Rattle.sf_journal.specs.Readings.{Ending, Reads}
 use Rattle.sf_journal.specs.Readings.Ending.{Whole, CutShort, Damaged as IsDamaged}
@@ -32,4 +34,4 @@ FailsAt sum bytes old (Damaged place) =
 FailsAt sum bytes old (NotAccepted place) =
     (texts : List (List ℕ)) × (text : List ℕ) × (rest : List ℕ) × (machine : Machine)
     × (bytes ≡ records sum (texts ++ text ∷ []) ++ rest) × Leads old texts machine × (place ≡ length (records sum texts))
-    × (changed machine (text_reading text) ≡ None)
+    × (changed machine (text_reading text) ≡ None) × AllByRecursion HasNoFeed (texts ++ text ∷ [])

@@ -3,7 +3,7 @@
 use Rattle.std.specs.Prelude.{◌≡◌, ◌⊎◌, ℕ, List, [], ◌∷◌, ◌++◌}
 use Rattle.sf_journal.specs.Records.{record_of, sum_with}
 use Rattle.sf_keeping.specs.Desks.{Call}
-use Rattle.sf_keeping.specs.Desks.Call.{AnswerFails, Answers, AppendFails, Appends, SyncFails, Syncs}
+use Rattle.sf_keeping.specs.Desks.{AnswerFails, Answers, append_fails, appends, sync_fails, syncs}
 use Rattle.sf_keeping.specs.declared.desk.KeepFault.{KeepFault}
 use Rattle.sf_keeping.specs.declared.desk.KeepFault.TheVariants.{Journal, Write}
 
@@ -28,7 +28,7 @@ with_answer waiting answer = record waiting { answers = waiting.answers ++ answe
 -- records go into the journal, and it is synced, where there are any
 abbrev pub keeping_calls : List ℕ → List Call
 keeping_calls [] = []
-keeping_calls (byte ∷ bytes) = Appends (byte ∷ bytes) ∷ Syncs ∷ []
+keeping_calls (byte ∷ bytes) = appends (byte ∷ bytes) ∷ syncs ∷ []
 
 -- answers are put out, where there are any
 abbrev pub answering_calls : List ℕ → List Call
@@ -41,7 +41,7 @@ committing_calls waiting = keeping_calls waiting.records ++ answering_calls wait
 
 -- it broke off at the journal: the records could not be appended, or not be synced
 abbrev pub IsBrokenKeeping : List ℕ → List Call → Type 0
-IsBrokenKeeping records calls = (calls ≡ AppendFails records ∷ []) ⊎ (calls ≡ Appends records ∷ SyncFails ∷ [])
+IsBrokenKeeping records calls = (calls ≡ append_fails records ∷ []) ⊎ (calls ≡ appends records ∷ sync_fails ∷ [])
 
 -- it broke off by this fault: there, or at the answers
 abbrev pub IsBrokenOff : KeepFault → Waiting → List Call → Type 0

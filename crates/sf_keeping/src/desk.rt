@@ -1,9 +1,9 @@
 //! Where edits are kept and answers go.
-ghost use Rattle.std.specs.Prelude.{◌≡◌, List, [], ◌∷◌, Option, None, OnOk, OnErr};
-ghost use Rattle.sf_keeping.specs.Desks.{Call, Makes};
-ghost use Rattle.sf_keeping.specs.Desks.Call.{AnswerFails, Answers, AppendFails, Appends, SyncFails, Syncs};
+ghost use Rattle.std.specs.Prelude.{◌≡◌, [], ◌∷◌, OnOk, OnErr};
+ghost use Rattle.sf_keeping.specs.Desks.{Makes, AnswerFails, Answers, append_fails, appends, sync_fails, syncs};
 ghost use Rattle.sf_keeping.specs.declared.desk.KeepFault.TheVariants.{Journal, Memory, Read, Write};
 
+use sf_folder::Folder;
 use sf_streams::{ReadFault, WriteFault};
 use std::alloc::AllocError;
 
@@ -56,32 +56,26 @@ impl From<JournalFault> for KeepFault {
     }
 }
 
-/// A journal, and an output. Contracts see the calls in their order, where they are known, as those of `Write` see the
-/// bytes that a writer has.
-pub trait Desk {
-    ghost use Rattle.std.specs.Prelude.{List, Option, None};
-    ghost use Rattle.sf_keeping.specs.Desks.{Call};
-
-    // The calls that were made, where they are known.
-    ghost calls: { Self → Option (List Call) } = { λ _. None };
-
+/// A folder whose journal is written, and an output. Contracts see the calls in their order, where they are known, as those of
+/// `Write` see the bytes that a writer has.
+pub trait Desk: Folder {
     /// Puts all of these bytes behind the journal.
     ///
     /// # Errors
     ///
     /// Where that fails; a front of the bytes may stand there then.
     fn append(&mut self, bytes: &[u8]) -> Result<(), JournalFault>
-        ensures ok { OnOk result (Makes (calls self.old) (calls self.new) (Appends bytes.now ∷ [])) }
-        ensures failed { OnErr result (Makes (calls self.old) (calls self.new) (AppendFails bytes.now ∷ [])) };
+        ensures ok { OnOk result (Makes (Self.calls self.old) (Self.calls self.new) (appends bytes.now ∷ [])) }
+        ensures failed { OnErr result (Makes (Self.calls self.old) (Self.calls self.new) (append_fails bytes.now ∷ [])) };
 
     /// Returns once all that was put behind the journal is on the disk.
     ///
     /// # Errors
     ///
     /// Where that is not known.
-    fn sync(&mut self) -> Result<(), JournalFault>
-        ensures ok { OnOk result (Makes (calls self.old) (calls self.new) (Syncs ∷ [])) }
-        ensures failed { OnErr result (Makes (calls self.old) (calls self.new) (SyncFails ∷ [])) };
+    fn sync_journal(&mut self) -> Result<(), JournalFault>
+        ensures ok { OnOk result (Makes (Self.calls self.old) (Self.calls self.new) (syncs ∷ [])) }
+        ensures failed { OnErr result (Makes (Self.calls self.old) (Self.calls self.new) (sync_fails ∷ [])) };
 
     /// Puts all of these bytes out, and flushes the output.
     ///
@@ -89,6 +83,6 @@ pub trait Desk {
     ///
     /// Where that fails; a front of the bytes may be out then.
     fn answer(&mut self, bytes: &[u8]) -> Result<(), WriteFault>
-        ensures ok { OnOk result (Makes (calls self.old) (calls self.new) (Answers bytes.now ∷ [])) }
-        ensures failed { OnErr result (Makes (calls self.old) (calls self.new) (AnswerFails bytes.now ∷ [])) };
+        ensures ok { OnOk result (Makes (Self.calls self.old) (Self.calls self.new) (Answers bytes.now ∷ [])) }
+        ensures failed { OnErr result (Makes (Self.calls self.old) (Self.calls self.new) (AnswerFails bytes.now ∷ [])) };
 }

@@ -125,7 +125,7 @@ impl Pending {
             × IsBrokenOff fault (with_answer (with_text self.old text.now) answer.now) calls) }
     {
         desk.append(bytes)?;
-        desk.sync()?;
+        desk.sync_journal()?;
         self.sum = self.sum.with(text);
         if answer.is_empty() {
             return Ok(());
@@ -145,7 +145,7 @@ impl Pending {
             return Ok(());
         }
         desk.append(self.records.as_slice())?;
-        desk.sync()?;
+        desk.sync_journal()?;
         self.records.clear();
         Ok(())
     }

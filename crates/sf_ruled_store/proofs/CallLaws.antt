@@ -35,8 +35,8 @@ use Rattle.sf_together.specs.Plans.{IsPlan}
 use Rattle.sf_together.specs.declared.outcome.Refusal.{Refusal as GroupRefusal}
 use Rattle.sf_together.specs.declared.outcome.Refusal.TheVariants as groups
 use Rattle.sf_together.specs.Outcomes.{IsRefusedAs as IsGroupRefusedAs}
-use Rattle.sf_changes.specs.Changes.{OfEdit, OfGroup}
-use Rattle.sf_changes.specs.declared.undo.Undo.TheVariants as changes
+use Rattle.sf_ruled_store.specs.Changes.{OfEdit, OfGroup}
+use Rattle.sf_ruled_store.specs.declared.changes.undo.Undo.TheVariants as changes
 use Rattle.sf_rules.specs.declared.breaks.Broken.{Broken}
 use Rattle.sf_rules.specs.declared.exchanging.NotExchanged.{NotExchanged}
 use Rattle.sf_rules.specs.declared.exchanging.NotExchanged.TheVariants as exchanges

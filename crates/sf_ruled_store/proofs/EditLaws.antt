@@ -13,7 +13,7 @@ use Rattle.sf_steps.specs.declared.edit.Edit.TheVariants.{AddLayer, DropLayer, R
 use Rattle.sf_steps.specs.declared.refusal.Refusal.TheVariants.{NoLayer, BadName, LayerExists}
 use Rattle.sf_steps.specs.Steps.{add_column, checks, drop_column, edit_layer, effect, first_refusal}
 use Rattle.sf_steps.proofs.Passes.{absent_from_not, passed, there_from_test}
-use Rattle.sf_changes.specs.Changes.{OfEdit}
+use Rattle.sf_ruled_store.specs.Changes.{OfEdit}
 use Rattle.sf_features.specs.declared.column.Column.{Column}
 use Rattle.sf_layers.specs.Content.{column_named}
 use Rattle.sf_rules.specs.declared.rule.Rule.{Rule}

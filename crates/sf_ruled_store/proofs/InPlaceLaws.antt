@@ -18,8 +18,8 @@ use Rattle.sf_steps.specs.declared.inverse.Inverse.TheVariants.{PutValue, TakeFe
 use Rattle.sf_steps.specs.Inverses.{Accepts, Fits, Restores, answer_of, described, frees_only, inverse_of, setting, taken_back, value_under}
 use Rattle.sf_steps.specs.Steps.{checks, edit_layer, effect, first_refusal, next_id_of, number_in}
 use Rattle.sf_steps.proofs.Passes.{Accepted-step}
-use Rattle.sf_changes.specs.Changes.{OfEdit}
-use Rattle.sf_changes.specs.declared.undo.Undo.TheVariants as changes
+use Rattle.sf_ruled_store.specs.Changes.{OfEdit}
+use Rattle.sf_ruled_store.specs.declared.changes.undo.Undo.TheVariants as changes
 use Rattle.sf_rules.specs.declared.rule.Rule.{Rule}
 use Rattle.sf_rules.specs.declared.rule.Says.{Says}
 use Rattle.sf_rules.specs.declared.rule.Says.TheVariants.{OfLayers, OfValues}

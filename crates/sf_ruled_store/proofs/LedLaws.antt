@@ -9,7 +9,7 @@ use Rattle.sf_steps.specs.declared.refusal.Refusal.{Refusal as EditRefusal}
 use Rattle.sf_steps.specs.Steps.{step}
 use Rattle.sf_groups.specs.declared.member.Member.{Member}
 use Rattle.sf_groups.specs.Members.{Refused, together}
-use Rattle.sf_changes.specs.Changes.{Change, OfEdit, OfGroup}
+use Rattle.sf_ruled_store.specs.Changes.{Change, OfEdit, OfGroup}
 use Rattle.sf_rules.specs.declared.rule.Rule.{Rule}
 use Rattle.sf_rules.specs.Rules.{break_of, broken_or, first_broken}
 use Rattle.sf_ruled_store.specs.declared.refusal.Refusal.{Refusal}

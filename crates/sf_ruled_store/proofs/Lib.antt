@@ -1,3 +1,4 @@
+pub mod ChangeLaws
 pub mod RuledLaws
 pub mod NameLaws
 pub mod RuleNames

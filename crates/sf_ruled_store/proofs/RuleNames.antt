@@ -10,7 +10,7 @@ use Rattle.sf_rules.specs.declared.rule.Rule.{Rule}
 use Rattle.sf_layers.specs.Content.{Content}
 use Rattle.sf_steps.specs.declared.edit.Edit.{Edit}
 use Rattle.sf_steps.specs.declared.edit.Edit.TheVariants.{RenameLayer}
-use Rattle.sf_changes.specs.Changes.{Change, OfEdit}
+use Rattle.sf_ruled_store.specs.Changes.{Change, OfEdit}
 use Rattle.sf_rules.specs.declared.breaks.Broken.{Broken}
 use Rattle.sf_rules.specs.Rules.{first_broken}
 use Rattle.sf_ruled_store.specs.declared.edits.Edited.{Edited}

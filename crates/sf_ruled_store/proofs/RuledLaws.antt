@@ -4,7 +4,7 @@ use Rattle.std.specs.Prelude.{if◌then◌else◌, is_some}
 use Rattle.std.specs.List.{AllByRecursion, list_all}
 use Rattle.sf_layers.specs.Content.{Content, has_layer}
 use Rattle.sf_layers.specs.WellFormed.{IsWellFormed}
-use Rattle.sf_changes.specs.Changes.{Change, OfEdit, OfGroup}
+use Rattle.sf_ruled_store.specs.Changes.{Change, OfEdit, OfGroup}
 use Rattle.sf_groups.specs.Members.{Refused, together}
 use Rattle.sf_steps.specs.declared.answer.Answer.{Answer}
 use Rattle.sf_steps.specs.Steps.{step}

@@ -6,10 +6,10 @@ use Rattle.sf_layers.proofs.Places.{insert-remove, length-remove, remove-insert,
 use Rattle.sf_steps.specs.declared.edit.Edit.{Edit}
 use Rattle.sf_steps.specs.declared.inverse.Inverse.{Inverse}
 use Rattle.sf_steps.specs.Inverses.{Carries, Reverts}
-use Rattle.sf_changes.specs.declared.redo.Redo.{Redo as ContentRedo}
-use Rattle.sf_changes.specs.declared.undo.Undo.{Undo as ContentUndo}
-use Rattle.sf_changes.specs.Changes.{MakesAgain, TakesBack}
-use Rattle.sf_changes.proofs.ChangeLaws.{edit-made_again, edit-taken_back}
+use Rattle.sf_ruled_store.specs.declared.changes.redo.Redo.{Redo as ContentRedo}
+use Rattle.sf_ruled_store.specs.declared.changes.undo.Undo.{Undo as ContentUndo}
+use Rattle.sf_ruled_store.specs.Changes.{MakesAgain, TakesBack}
+use Rattle.sf_ruled_store.proofs.ChangeLaws.{edit-made_again, edit-taken_back}
 use Rattle.sf_rules.specs.declared.breaks.Break.{Break}
 use Rattle.sf_rules.specs.declared.rule.Rule.{Rule}
 use Rattle.sf_rules.specs.Rules.{break_of, broken_from, broken_or}

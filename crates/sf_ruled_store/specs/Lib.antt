@@ -1,3 +1,4 @@
+pub mod Changes
 pub mod Ruled
 pub mod Laws
 pub mod Outcomes

@@ -3,7 +3,7 @@ use Rattle.std.specs.Prelude.{ℕ, Bool, true, false, not, ◌&&◌, List, [], �
 use Rattle.std.specs.List.{list_all}
 use Rattle.std.specs.Option.{option_map_or}
 use Rattle.sf_features.specs.declared.column.Column.{Column}
-use Rattle.sf_changes.specs.Changes.{Change, OfEdit, OfGroup}
+use Rattle.sf_ruled_store.specs.Changes.{Change, OfEdit, OfGroup}
 use Rattle.sf_steps.specs.declared.edit.Edit.TheVariants.{RenameLayer}
 use Rattle.sf_steps.specs.declared.answer.Answer.{Answer}
 use Rattle.sf_steps.specs.Steps.{step}

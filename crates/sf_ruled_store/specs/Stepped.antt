@@ -6,5 +6,5 @@ pub use Rattle.sf_steps.specs.declared.refusal.Refusal.{Refusal as EditRefusal}
 pub use Rattle.sf_steps.specs.Steps.{step}
 pub use Rattle.sf_groups.specs.declared.member.Member.{Member}
 pub use Rattle.sf_groups.specs.Members.{Refused, together}
-pub use Rattle.sf_changes.specs.Changes.{OfEdit, OfGroup}
+pub use Rattle.sf_ruled_store.specs.Changes.{OfEdit, OfGroup}
 pub use Rattle.sf_rules.specs.declared.rule.Rule.{Rule}

@@ -10,8 +10,8 @@ use Rattle.sf_steps.specs.Steps.{edit_layer, step}
 use Rattle.sf_steps.specs.Inverses.{Fits, described, frees_only}
 use Rattle.sf_groups.specs.declared.member.Member.{Member}
 use Rattle.sf_groups.specs.Members.{together}
-use Rattle.sf_changes.specs.Changes.{FitsRedo, FitsUndo, FreesOnly, OfEdit, OfGroup, TakesNoMemory, redone_by, undone_by}
-use Rattle.sf_changes.specs.declared.redo.Redo.TheVariants as content_redos
+use Rattle.sf_ruled_store.specs.Changes.{FitsRedo, FitsUndo, FreesOnly, OfEdit, OfGroup, TakesNoMemory, redone_by, undone_by}
+use Rattle.sf_ruled_store.specs.declared.changes.redo.Redo.TheVariants as content_redos
 use Rattle.sf_rules.specs.declared.rule.Rule.{Rule}
 use Rattle.sf_rules.specs.declared.rule.Says.{Says}
 use Rattle.sf_rules.specs.declared.rule.Says.TheVariants.{OfLayers, OfValues}

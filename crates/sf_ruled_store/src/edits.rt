@@ -1,13 +1,13 @@
 //! Edits and groups carried out under rules.
 
 ghost use Rattle.std.specs.Prelude.{◌≡◌, ◌+◌, ◌≤◌, ◌++◌, length, IfErr, IfOk, IsTrue, MatchResult, OnErr, true, vec_capacity};
-ghost use Rattle.sf_changes.specs.Changes.{OfEdit, OfGroup};
+ghost use Rattle.sf_ruled_store.specs.Changes.{OfEdit, OfGroup};
 ghost use Rattle.sf_groups.specs.Local.{is_of_features as is_edit_of_features};
 ghost use Rattle.sf_groups.specs.Members.{ids_given};
 ghost use Rattle.sf_steps.specs.declared.edit.Edit.{Edit as EditOf};
 ghost use Rattle.sf_layers.specs.WellFormed.{IsWellFormed};
 ghost use Rattle.sf_ruled_store.specs.Ruled.{OfChange, ruled_step, rules_after};
-ghost use Rattle.sf_changes.specs.declared.undo.Undo.TheVariants as changes;
+ghost use Rattle.sf_ruled_store.specs.declared.changes.undo.Undo.TheVariants as changes;
 ghost use Rattle.sf_steps.specs.Inverses.{answer_of as inverse_answer};
 ghost use Rattle.sf_ruled_store.specs.declared.undo.Undo.TheVariants as undos;
 ghost use Rattle.sf_ruled_store.specs.Outcomes.{IsRefusedAs, answer_of as answer_of_ids, by_edit as by_edit_of, ruled};
@@ -130,7 +130,7 @@ pub(crate) fn accepted(inverse: Inverse) -> Edited
 {
     Edited {
         answer: inverse.answer(),
-        undo: Undo::Change(sf_changes::Undo::Edit(inverse)),
+        undo: Undo::Change(super::changes::Undo::Edit(inverse)),
     }
 }
 
@@ -254,7 +254,7 @@ fn carry_out_several(
             match exchange_under(alloc, store, rules.as_slice(), &mut halves) {
                 Ok(()) => Ok(Grouped {
                     ids,
-                    undo: Undo::Change(sf_changes::Undo::Group(halves)),
+                    undo: Undo::Change(super::changes::Undo::Group(halves)),
                 }),
                 Err(refusal) => Err(by_rules(refusal)),
             }

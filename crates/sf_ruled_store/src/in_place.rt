@@ -1,8 +1,8 @@
 //! Edits carried out in place under rules on values.
 
 ghost use Rattle.std.specs.Prelude.{◌≡◌, IfErr, IfOk, None, OnErr, OnOk, true};
-ghost use Rattle.sf_changes.specs.Changes.{OfEdit};
-ghost use Rattle.sf_changes.specs.declared.undo.Undo.TheVariants as changes;
+ghost use Rattle.sf_ruled_store.specs.Changes.{OfEdit};
+ghost use Rattle.sf_ruled_store.specs.declared.changes.undo.Undo.TheVariants as changes;
 ghost use Rattle.sf_rules.specs.Rules.{first_broken};
 ghost use Rattle.sf_steps.specs.Inverses.{Fits, answer_of, described, frees_only};
 ghost use Rattle.sf_ruled_store.specs.InPlace.{WasPut, is_in_place as is_put_in_place, puts_only as is_putting};

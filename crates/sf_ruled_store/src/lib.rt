@@ -1,6 +1,7 @@
 //! Contents with the rules that hold in them: steps carried out, taken back and made again.
 #![tactic(auto)]
 
+mod changes;
 mod edits;
 mod in_place;
 pub mod laws;

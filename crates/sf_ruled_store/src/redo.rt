@@ -6,7 +6,7 @@ use sf_rules::Rule;
 #[derive(Debug, Drop)]
 pub enum Redo {
     /// Of a change that leaves the rules as they are.
-    Change(sf_changes::Redo),
+    Change(super::changes::Redo),
     /// Of another name for a layer that rules name: the rules with that name.
     Renamed { reverted: Reverted, rules: Rules },
     /// Of a rule that is added.

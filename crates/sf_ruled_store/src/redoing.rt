@@ -34,7 +34,7 @@ pub(crate) fn make_again(
     ensures always { TakesNoMemoryUnder (ruled store.old rules.old) redo → IsOk result }
 {
     match redo {
-        Redo::Change(redo) => match sf_changes::make_again(alloc, store, redo) {
+        Redo::Change(redo) => match super::changes::make_again(alloc, store, redo) {
             Ok(undo) => Ok(Undo::Change(undo)),
             Err(redo) => Err(Redo::Change(redo)),
         },

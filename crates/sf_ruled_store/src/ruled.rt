@@ -5,7 +5,7 @@ ghost use Rattle.sf_ruled_store.specs.Ruled.{AddRule, DropRule, OfChange, ruled_
 ghost use Rattle.sf_ruled_store.specs.Laws.{IsKept};
 ghost use Rattle.sf_ruled_store.specs.Outcomes.{IsRefusedAs, ruled};
 ghost use Rattle.sf_ruled_store.specs.Undos.{FitsRedoUnder, FitsUndoUnder, FreesOnlyUnder, IsEdited, IsGrouped, IsLed, MakesAgainUnder, TakesBackUnder, TakesNoMemoryUnder};
-ghost use Rattle.sf_changes.specs.Changes.{OfEdit, OfGroup};
+ghost use Rattle.sf_ruled_store.specs.Changes.{OfEdit, OfGroup};
 
 use super::edits::{Edited, Grouped, carry_out_group, carry_out_ruled, carry_out_unseen};
 use super::redo::Redo;

@@ -6,7 +6,7 @@ use sf_steps::Inverse;
 #[derive(Debug, Drop)]
 pub enum Undo {
     /// Of a change that left the rules as they were.
-    Change(sf_changes::Undo),
+    Change(super::changes::Undo),
     /// Of another name for a layer that rules name: the rules as they were.
     Renamed { inverse: Inverse, rules: Rules },
     /// Of a rule that was added: it stands last.

@@ -37,7 +37,7 @@ pub(crate) fn take_back(
     ensures always { FreesOnlyUnder (ruled store.old rules.old) undo → IsOk result }
 {
     match undo {
-        Undo::Change(undo) => match sf_changes::take_back(alloc, store, undo) {
+        Undo::Change(undo) => match super::changes::take_back(alloc, store, undo) {
             Ok(redo) => Ok(Redo::Change(redo)),
             Err(undo) => Err(Undo::Change(undo)),
         },

@@ -1,9 +1,9 @@
 //! How a run ends before its time: its status, and its last words.
 ghost use Rattle.sfstore.specs.Statuses.{IsStatusOf};
 
-use sf_keeping::KeepFault;
 use sf_options::OptionsFault;
 use sf_run::{BeginFault, FilesFault, LoadFault, RunFault, SaveFault, ServeFault};
+use sf_session::{HomeFault, JournalFault, KeepFault, SessionFault};
 use std::fmt;
 
 /// Why a run ended before its time.
@@ -16,35 +16,13 @@ pub enum Ending {
     /// The file to load could not be opened.
     LoadOpen,
     Load(LoadFault),
-    /// Another program wrote to the store's file while it was loaded.
-    LoadChanged,
     /// The file to save to could not be opened or made.
     SaveOpen,
     Save(SaveFault),
-    /// Another program has changed the store's file since it was loaded or saved.
-    SaveChanged,
     /// A store that is kept is named beside a file to load or to save, or is not named where its end is.
     Options,
-    /// Another session has the store.
-    Taken,
-    Journal(JournalFault),
-    /// Serving a store that is kept ended.
-    Keep(KeepFault),
-}
-
-/// Why a journal could not be opened. Places are bytes from its beginning.
-#[derive(Clone, Copy)]
-pub enum JournalFault {
-    Memory,
-    Read,
-    /// It could not be written anew.
-    Write,
-    /// It goes on from another file.
-    OtherFile,
-    /// What stands there is no record behind those before it.
-    Damaged(usize),
-    /// The record there is no edit that is accepted.
-    NotAccepted(usize),
+    /// A session over a store that is kept ended.
+    Session(SessionFault),
 }
 
 /// The words for what ended serving.
@@ -72,6 +50,29 @@ fn load_words(fault: &LoadFault) -> &'static str {
         LoadFault::Memory => "fault load Memory",
         LoadFault::Read => "fault load Read",
         LoadFault::BadFile { .. } => "fault load BadFile",
+    }
+}
+
+/// The words for why the lock or the file of a store that is kept could not be had.
+fn home_words(fault: HomeFault) -> &'static str {
+    match fault {
+        HomeFault::Open => "fault load Open",
+        HomeFault::Taken => "fault load Taken",
+        HomeFault::Read => "fault load Read",
+        HomeFault::Changed => "fault load Changed",
+        HomeFault::Memory => "fault journal Memory",
+    }
+}
+
+/// The words for what ended a session over a store that is kept.
+fn session_words(fault: &SessionFault) -> &'static str {
+    match fault {
+        SessionFault::Home(fault) => home_words(*fault),
+        SessionFault::Load(fault) => load_words(fault),
+        SessionFault::Journal(fault) => journal_words(fault),
+        SessionFault::Serve(fault) => keep_words(*fault),
+        SessionFault::Save(fault) => save_words(fault),
+        SessionFault::SaveChanged => "fault save Changed",
     }
 }
 
@@ -123,14 +124,17 @@ impl Ending {
         ensures { IsStatusOf self.now result }
     {
         match self {
-            Ending::Serve(_) | Ending::Keep(_) => 1,
+            Ending::Serve(_) | Ending::Session(SessionFault::Serve(_)) => 1,
             Ending::Arguments | Ending::Options | Ending::Words(OptionsFault::Memory) => 2,
             Ending::Words(OptionsFault::Refused(error)) => {
                 if error.exit_code() == 0 { 0 } else { 2 }
             }
-            Ending::LoadOpen | Ending::Load(_) | Ending::LoadChanged | Ending::Taken => 3,
-            Ending::Journal(_) => 3,
-            Ending::SaveOpen | Ending::Save(_) | Ending::SaveChanged => 4,
+            Ending::LoadOpen | Ending::Load(_) => 3,
+            Ending::Session(
+                SessionFault::Home(_) | SessionFault::Load(_) | SessionFault::Journal(_),
+            ) => 3,
+            Ending::SaveOpen | Ending::Save(_) => 4,
+            Ending::Session(SessionFault::Save(_) | SessionFault::SaveChanged) => 4,
         }
     }
 }
@@ -144,16 +148,12 @@ impl Ending {
             Ending::Words(_) => "fault words Memory",
             Ending::LoadOpen => "fault load Open",
             Ending::Load(fault) => load_words(fault),
-            Ending::LoadChanged => "fault load Changed",
             Ending::SaveOpen => "fault save Open",
             Ending::Save(fault) => save_words(fault),
-            Ending::SaveChanged => "fault save Changed",
             Ending::Options => {
                 "error: --store goes with neither --load nor --save, and --keep goes with --store"
             }
-            Ending::Taken => "fault load Taken",
-            Ending::Journal(fault) => journal_words(fault),
-            Ending::Keep(fault) => keep_words(*fault),
+            Ending::Session(fault) => session_words(fault),
         }
     }
 }
@@ -162,12 +162,15 @@ impl fmt::Display for Ending {
     fn fmt<W: fmt::Write>(&self, f: &mut fmt::Formatter<W>) -> fmt::Result {
         match self {
             Ending::Words(OptionsFault::Refused(error)) => write!(f, "{error}"),
-            Ending::Load(LoadFault::BadFile { place, inner }) => {
+            Ending::Load(LoadFault::BadFile { place, inner })
+            | Ending::Session(SessionFault::Load(LoadFault::BadFile { place, inner })) => {
                 writeln!(f, "{} {place} {inner}", self.words())
             }
-            Ending::Journal(JournalFault::Damaged(place) | JournalFault::NotAccepted(place)) => {
-                writeln!(f, "{} {place}", self.words())
-            }
+            Ending::Session(
+                SessionFault::Journal(
+                    JournalFault::Damaged(place) | JournalFault::NotAccepted(place),
+                ),
+            ) => { writeln!(f, "{} {place}", self.words()) }
             _ => writeln!(f, "{}", self.words()),
         }
     }

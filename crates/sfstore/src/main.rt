@@ -4,8 +4,8 @@
 #![tactic(auto)]
 
 mod ending;
-mod storing;
 mod system_files;
+mod system_home;
 
 ghost use Rattle.std.specs.Prelude.{IfErr, OnOk, option_map, string_bytes};
 ghost use Rattle.sf_run.specs.Files.{EndsBy, IsSaved};
@@ -19,8 +19,8 @@ use std::io::{Read, Write};
 use std::process::ExitCode;
 use std::rt::{Env, Files};
 use std::{env, io};
-use storing::run_stored;
 use system_files::SystemFiles;
+use system_home::run_stored;
 
 /// Why the system's words could not be had.
 fn arguments_fault(error: &io::Error) -> Ending {

@@ -15,10 +15,10 @@ returns-in-Nothing-clause-broken g c = IfErr-map c.tell_reply.result _ _
 
 pub returns-in-Itself-clause-ok : goal.returns-in-Itself-clause-ok
 returns-in-Itself-clause-ok g c = OnOk-map c.keep_alone.result
-    (λ goes request asks is_text. subst (λ r. GoesOnBy (g.D.Desk.calls c.args.desk.now) (g.D.Desk.calls c.keep_alone.new.desk) c.args.pending.now c.args.editor.now (r ∷ []) c.keep_alone.new.pending c.keep_alone.new.editor)
+    (λ goes request asks is_text. subst (λ r. GoesOnBy (g.D.Folder.calls c.args.desk.now) (g.D.Folder.calls c.keep_alone.new.desk) c.args.pending.now c.args.editor.now (r ∷ []) c.keep_alone.new.pending c.keep_alone.new.editor)
     (sym (subst (Asks (option_copied c.args.line) request) c.in-Itself.is asks)) (goes is_text)) c.keep_alone.ensures.ok
 
 pub returns-in-Itself-clause-broken : goal.returns-in-Itself-clause-broken
 returns-in-Itself-clause-broken g c = IfErr-map c.keep_alone.result _ _
-    (λ fault breaks request asks is_text. subst (λ r. BreaksWithin fault (g.D.Desk.calls c.args.desk.now) (g.D.Desk.calls c.keep_alone.new.desk) c.args.pending.now c.args.editor.now (r ∷ []) c.keep_alone.new.editor)
+    (λ fault breaks request asks is_text. subst (λ r. BreaksWithin fault (g.D.Folder.calls c.args.desk.now) (g.D.Folder.calls c.keep_alone.new.desk) c.args.pending.now c.args.editor.now (r ∷ []) c.keep_alone.new.editor)
     (sym (subst (Asks (option_copied c.args.line) request) c.in-Itself.is asks)) (breaks is_text)) c.keep_alone.ensures.broken

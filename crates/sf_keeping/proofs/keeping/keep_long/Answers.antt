@@ -28,7 +28,7 @@ returns-in-Changed-clause-ok g c =
     let stays = Stays-commit _ _ c.args.pending.now c.commit.new.self c.in_ok-commit.ensures.ok c.in_ok-commit.ensures.emptied in
     let told = subst (λ answer. IsAnswered c.args.editor.now (text_reading c.args.text.now) answer c.carry_out.new.editor) (sym (c.as_bytes.ensures ∙ c.accepted-answer.ensures)) c.in-Changed.ensures.0 in
     OnOk-both c.keep_at_once.result
-    (λ makes next request is grouped. GoesOnBy-at_once _ (g.D.Desk.calls c.commit.new.desk) _ _ c.commit.new.self _ _ _ request c.args.text.now c.as_bytes.result.now stays is told c.in-Changed.ensures.1
+    (λ makes next request is grouped. GoesOnBy-at_once _ (g.D.Folder.calls c.commit.new.desk) _ _ c.commit.new.self _ _ _ request c.args.text.now c.as_bytes.result.now stays is told c.in-Changed.ensures.1
     (makes empty (c.as_slice.ensures.value ∙ c.in-Ok.ensures)) (next empty))
     c.keep_at_once.ensures.ok c.keep_at_once.ensures.sum
 
@@ -38,7 +38,7 @@ returns-in-Changed-clause-broken g c =
     let stays = Stays-commit _ _ c.args.pending.now c.commit.new.self c.in_ok-commit.ensures.ok c.in_ok-commit.ensures.emptied in
     let told = subst (λ answer. IsAnswered c.args.editor.now (text_reading c.args.text.now) answer c.carry_out.new.editor) (sym (c.as_bytes.ensures ∙ c.accepted-answer.ensures)) c.in-Changed.ensures.0 in
     IfErr-map c.keep_at_once.result _ _
-    (λ fault broken request is grouped. BreaksWithin-at_once _ _ (g.D.Desk.calls c.commit.new.desk) _ _ c.commit.new.self _ _ request c.args.text.now c.as_bytes.result.now stays is told c.in-Changed.ensures.1
+    (λ fault broken request is grouped. BreaksWithin-at_once _ _ (g.D.Folder.calls c.commit.new.desk) _ _ c.commit.new.self _ _ request c.args.text.now c.as_bytes.result.now stays is told c.in-Changed.ensures.1
     (broken empty (c.as_slice.ensures.value ∙ c.in-Ok.ensures)))
     c.keep_at_once.ensures.broken
 
@@ -48,7 +48,7 @@ returns-in-Grouped-clause-ok g c =
     let stays = Stays-commit _ _ c.args.pending.now c.commit.new.self c.in_ok-commit.ensures.ok c.in_ok-commit.ensures.emptied in
     let told = subst (λ answer. IsAnswered c.args.editor.now (text_reading c.args.text.now) answer c.carry_out.new.editor) (sym c.as_slice-in-Grouped-2.ensures.value) c.in-Grouped.ensures.0 in
     OnOk-both c.keep_at_once-in-Grouped.result
-    (λ makes next request is grouped. GoesOnBy-at_once _ (g.D.Desk.calls c.commit.new.desk) _ _ c.commit.new.self _ _ _ request c.args.text.now c.as_slice-in-Grouped-2.result.now stays is told c.in-Grouped.ensures.1
+    (λ makes next request is grouped. GoesOnBy-at_once _ (g.D.Folder.calls c.commit.new.desk) _ _ c.commit.new.self _ _ _ request c.args.text.now c.as_slice-in-Grouped-2.result.now stays is told c.in-Grouped.ensures.1
     (makes empty (c.as_slice-in-Grouped.ensures.value ∙ c.in-Ok.ensures)) (next empty))
     c.keep_at_once-in-Grouped.ensures.ok c.keep_at_once-in-Grouped.ensures.sum
 
@@ -58,7 +58,7 @@ returns-in-Grouped-clause-broken g c =
     let stays = Stays-commit _ _ c.args.pending.now c.commit.new.self c.in_ok-commit.ensures.ok c.in_ok-commit.ensures.emptied in
     let told = subst (λ answer. IsAnswered c.args.editor.now (text_reading c.args.text.now) answer c.carry_out.new.editor) (sym c.as_slice-in-Grouped-2.ensures.value) c.in-Grouped.ensures.0 in
     IfErr-map c.keep_at_once-in-Grouped.result _ _
-    (λ fault broken request is grouped. BreaksWithin-at_once _ _ (g.D.Desk.calls c.commit.new.desk) _ _ c.commit.new.self _ _ request c.args.text.now c.as_slice-in-Grouped-2.result.now stays is told c.in-Grouped.ensures.1
+    (λ fault broken request is grouped. BreaksWithin-at_once _ _ (g.D.Folder.calls c.commit.new.desk) _ _ c.commit.new.self _ _ request c.args.text.now c.as_slice-in-Grouped-2.result.now stays is told c.in-Grouped.ensures.1
     (broken empty (c.as_slice-in-Grouped.ensures.value ∙ c.in-Ok.ensures)))
     c.keep_at_once-in-Grouped.ensures.broken
 

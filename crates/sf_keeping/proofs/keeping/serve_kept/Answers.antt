@@ -14,7 +14,7 @@ use Rattle.sf_keeping.proofs.keeping.serve_kept.Goals as goal
 
 pub loop-init : goal.loop-init
 loop-init g c = (
-  subst (λ w. KeepsOn (g.R.Read.remaining c.args.reader.now) (g.R.Read.remaining c.args.reader.now) c.args.input.now.rest lines.Closed (g.D.Desk.calls c.args.desk.now) (g.D.Desk.calls c.args.desk.now) c.args.sum c.args.editor.now c.begin_line.new.self w c.args.editor.now)
+  subst (λ w. KeepsOn (g.R.Read.remaining c.args.reader.now) (g.R.Read.remaining c.args.reader.now) c.args.input.now.rest lines.Closed (g.D.Folder.calls c.args.desk.now) (g.D.Folder.calls c.args.desk.now) c.args.sum c.args.editor.now c.begin_line.new.self w c.args.editor.now)
       (sym c.begin.ensures) (KeepsOn-start _ _ c.args.sum c.args.editor.now c.args.input.now c.begin_line.new.self c.begin_line.ensures (Consumes-nil _)),
   nothing-kept (nothing_waits c.args.sum) c.begin.new.self c.begin.ensures,
 )

@@ -1,5 +1,5 @@
 use Rattle.std.proofs.Common.{◌≡◌, ◌++◌, ℕ, List, sym, subst, ap, ◌∙◌}
-use Rattle.sf_changes.specs.Changes.{OfGroup}
+use Rattle.sf_ruled_store.specs.Changes.{OfGroup}
 use Rattle.sf_groups.specs.Members.{ids_given}
 use Rattle.sf_ruled_store.specs.Outcomes.{IsRefusedAs, ruled}
 use Rattle.sf_ruled_store.specs.Ruled.{OfChange, ruled_step}

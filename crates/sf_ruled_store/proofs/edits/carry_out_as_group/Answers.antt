@@ -1,5 +1,5 @@
 use Rattle.std.proofs.Common.{sym, subst, ap, ◌∙◌}
-use Rattle.sf_changes.specs.Changes.{OfEdit, OfGroup}
+use Rattle.sf_ruled_store.specs.Changes.{OfEdit, OfGroup}
 use Rattle.sf_ruled_store.specs.Outcomes.{IsRefusedAs, answer_of, ruled}
 use Rattle.sf_ruled_store.specs.Ruled.{OfChange, ruled_step}
 use Rattle.sf_ruled_store.specs.Undos.{IsEdited, IsGrouped, alone}

@@ -1,5 +1,5 @@
 use Rattle.std.proofs.Common.{◌≡◌, ◌∙◌, true, Err, sym, subst}
-use Rattle.sf_changes.specs.Changes.{OfEdit}
+use Rattle.sf_ruled_store.specs.Changes.{OfEdit}
 use Rattle.sf_ruled_store.specs.declared.refusal.Refusal.TheVariants.{ColumnRuled, LayerRuled}
 use Rattle.sf_ruled_store.specs.Outcomes.{ruled}
 use Rattle.sf_ruled_store.specs.Ruled.{OfChange, ruled_step}

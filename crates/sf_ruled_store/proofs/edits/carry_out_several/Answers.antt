@@ -1,7 +1,7 @@
 use Rattle.std.proofs.Common.{◌≡◌, None, sym, subst}
 use Rattle.sf_patches.specs.Halves.{after_halves}
-use Rattle.sf_changes.specs.Changes.{OfGroup}
-use Rattle.sf_changes.specs.declared.undo.Undo.TheVariants as changes
+use Rattle.sf_ruled_store.specs.Changes.{OfGroup}
+use Rattle.sf_ruled_store.specs.declared.changes.undo.Undo.TheVariants as changes
 use Rattle.sf_rules.specs.Exchanging.{IsRefusedUnder}
 use Rattle.sf_rules.specs.Rules.{first_broken}
 use Rattle.sf_ruled_store.specs.declared.undo.Undo.TheVariants as undos

@@ -1,8 +1,0 @@
-//! What takes a change of a store back, and what makes it again: of an edit, and of several edits as one step.
-#![tactic(auto)]
-
-mod redo;
-mod undo;
-
-pub use redo::{Redo, make_again};
-pub use undo::{Undo, take_back};
