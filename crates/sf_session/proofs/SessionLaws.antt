@@ -1,5 +1,5 @@
 -- How a session goes on.
-use Rattle.std.proofs.Common.{◌≡◌, inl, inr, ℕ, suc, List, [], ◌∷◌, Option, refl, subst}
+use Rattle.std.proofs.Common.{◌≡◌, inl, inr, ℕ, suc, List, [], ◌∷◌, Option, refl, subst, Bool, false}
 use Rattle.sf_journal.specs.Records.{head_with}
 use Rattle.sf_folder.specs.Calls.{Call, Does, Locks}
 use Rattle.sf_folder.proofs.Chains.{does-then}
@@ -17,7 +17,7 @@ use Rattle.sf_session.specs.Openings.{BeginsWith, Found, IsOpened, finding_calls
 use Rattle.sf_session.specs.Saving.{IsUnsaved}
 use Rattle.sf_session.specs.Answering.{IsUnkept, SavesAnswered}
 use Rattle.sf_session.specs.Sessions.{HasBegun, Place, SavesOnce, SavesTimes, ServesAll}
-use Rattle.sf_session.specs.Faults.{BreaksOff, IsSaveFault, IsServedUnsaved, IsUnbegun, IsUnopenedBy}
+use Rattle.sf_session.specs.Faults.{BreaksOff, FailsServing, IsSaveFault, IsUnbegun, IsUnopenedBy}
 
 -- the lock was taken, the file loaded, and the journal opened
 pub begun : (unread : Option (List ℕ)) (found : Found) (size : ℕ) (digest : List ℕ) (first : Machine) (sum : ℕ) (opening : List Call) (machine : Machine) (start locked loaded now : Option (List Call))
@@ -95,9 +95,9 @@ unkept (Serve fault) stop first last saves left rest served now behind machine b
   ),
 )
 unkept (Save fault) stop first last saves left rest served now behind machine before is_save serves unsaved =
-    (saves, last, before, record { stop = stop; machine = machine; served = served; rest = rest; behind = behind; serves = serves; unsaved = unsaved })
+    (saves, last, before, record { machine = machine; served = served; rest = rest; behind = behind; serves = subst (λ s. ServesKept s last.unread left last.ahead rest last.calls served last.sum behind last.machine machine) is_save serves; unsaved = unsaved })
 unkept SaveChanged stop first last saves left rest served now behind machine before is_save serves unsaved =
-    (saves, last, before, record { stop = stop; machine = machine; served = served; rest = rest; behind = behind; serves = serves; unsaved = unsaved })
+    (saves, last, before, record { machine = machine; served = served; rest = rest; behind = behind; serves = subst (λ s. ServesKept s last.unread left last.ahead rest last.calls served last.sum behind last.machine machine) is_save serves; unsaved = unsaved })
 unkept (Home fault) stop first last saves left rest served now behind machine before is_save serves u = absurd u
 unkept (Load fault) stop first last saves left rest served now behind machine before is_save serves u = absurd u
 unkept (Journal fault) stop first last saves left rest served now behind machine before is_save serves u = absurd u
@@ -124,17 +124,6 @@ pub unserved-here : (first last : Place) (saves : ℕ) → SavesTimes saves firs
 unserved-here first last saves before = unserved keeping.Memory first last saves last.unread last.calls last.machine before (EndsKept-none last.unread last.ahead last.calls last.sum last.machine)
 
 -- what was served could not be saved
-pub unsaved-at-end : (fault : SessionFault) (first : Place) (left : Option (List ℕ)) (served now : Option (List Call)) (machine : Machine)
-    → IsSaveFault fault → ServesAll first left served machine → IsUnsaved (canonical_ruled (ruled_now machine)) served now → BreaksOff fault first left now
-unsaved-at-end fault first left served now machine is s unsaved = at fault is
-  where
-    ends : IsServedUnsaved s.last left now
-    ends = record { stop = stops.End; machine = machine; served = served; rest = s.rest; behind = s.behind; serves = s.serves; unsaved = unsaved }
-
-    at : (fault : SessionFault) → IsSaveFault fault → BreaksOff fault first left now
-    at (Save fault) is = (s.saves, s.last, s.saved, ends)
-    at SaveChanged is = (s.saves, s.last, s.saved, ends)
-    at (Home fault) is = absurd is
-    at (Load fault) is = absurd is
-    at (Journal fault) is = absurd is
-    at (Serve fault) is = absurd is
+pub unsaved-at-end : (keep : Bool) (fault : SessionFault) (first : Place) (left : Option (List ℕ)) (served now : Option (List Call)) (machine : Machine)
+    → keep ≡ false → IsSaveFault fault → ServesAll first left served machine → IsUnsaved (canonical_ruled (ruled_now machine)) served now → FailsServing keep fault first left now
+unsaved-at-end keep fault first left served now machine ends is serves unsaved = inr (ends, is, served, machine, serves, unsaved)

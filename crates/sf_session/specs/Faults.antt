@@ -1,5 +1,5 @@
 -- What a session did before a fault.
-use Rattle.std.specs.Prelude.{◌≡◌, ◌⊎◌, ℕ, ◌+◌, List, [], ◌∷◌, ◌++◌, length, min, Option, None, codes}
+use Rattle.std.specs.Prelude.{◌≡◌, ◌⊎◌, Bool, false, ℕ, ◌+◌, List, [], ◌∷◌, ◌++◌, length, min, Option, None, codes}
 use Rattle.sf_journal.specs.Crc.{crc}
 use Rattle.sf_journal.specs.Records.{head_with}
 use Rattle.sf_folder.specs.Calls.{AnswerFails, Call, Does, FindsNone, Locks, Opens, Refuses, Tries}
@@ -10,7 +10,6 @@ use Rattle.sf_saving.specs.Canonical.{canonical_ruled}
 use Rattle.sf_keeping.specs.History.{Machine, ruled_now}
 use Rattle.sf_keeping.specs.declared.desk.KeepFault.{KeepFault}
 use Rattle.sf_keeping.specs.declared.desk.KeepFault.TheVariants as keeping
-use Rattle.sf_keeping.specs.declared.keeping.Stop.{Stop}
 use Rattle.sf_keeping.specs.declared.keeping.Stop.TheVariants as stops
 use Rattle.sf_keeping.specs.declared.replaying.ReplayFault.{ReplayFault}
 use Rattle.sf_keeping.specs.declared.replaying.ReplayFault.TheVariants as replaying
@@ -24,7 +23,7 @@ use Rattle.sf_session.specs.declared.fault.SessionFault.{SessionFault}
 use Rattle.sf_session.specs.declared.fault.SessionFault.TheVariants.{Home, Load, Journal, Serve, Save, SaveChanged}
 use Rattle.sf_session.specs.Openings.{BeginsWith, Counts, Found, IsHeadAlone, finding_calls, reading_calls, records_that_count}
 use Rattle.sf_session.specs.Saving.{HasSaved, IsUnsaved}
-use Rattle.sf_session.specs.Sessions.{HasBegun, Place, SavesTimes}
+use Rattle.sf_session.specs.Sessions.{HasBegun, Place, SavesTimes, ServesAll}
 
 -- a front of some calls was made, and the next one was refused
 abbrev pub IsRefusedIn : List Call → Option (List Call) → Option (List Call) → Type 0
@@ -60,6 +59,11 @@ abbrev pub FailsBehind : List ℕ → Machine → (ℕ → ReplayFault) → ℕ 
 FailsBehind head machine fault told journal beside =
     (chosen : Chosen) × Counts head journal beside chosen × (place : ℕ) × (told ≡ place_behind head place)
     × FailsAt (crc head) (records_that_count head chosen journal beside) machine (fault place)
+
+-- memory ran out; or none of the journals counts
+abbrev pub IsUnchosen : SessionFault → List ℕ → Option (List ℕ) → Option (List ℕ) → Type 0
+IsUnchosen fault head journal beside = (fault ≡ Journal journals.Memory)
+    ⊎ ((fault ≡ Journal journals.OtherFile) × Chooses head journal beside None × (IsHeadAlone journal → ⊥))
 
 -- the journal that counts could not be replayed, or none counts, and nothing was done; or a front of the calls was made by which one
 -- is written anew
@@ -125,14 +129,13 @@ pub record IsUnanswered (last : Place) (left : Option (List ℕ)) (now : Option 
   pub saves : HasSaved (canonical_ruled (ruled_now machine)) served saved sum
   pub fails : Does saved now (AnswerFails (codes "ok\n") ∷ [])
 
--- the lines were answered up to one that asks for a save, or all, and what they left could not be saved
+-- the lines up to one that asks for a save were answered, and what they left could not be saved
 pub record IsServedUnsaved (last : Place) (left : Option (List ℕ)) (now : Option (List Call)) : Type 0 where
-  pub stop : Stop
   pub machine : Machine
   pub served : Option (List Call)
   pub rest : List ℕ
   pub behind : ℕ
-  pub serves : ServesKept stop last.unread left last.ahead rest last.calls served last.sum behind last.machine machine
+  pub serves : ServesKept stops.Save last.unread left last.ahead rest last.calls served last.sum behind last.machine machine
   pub unsaved : IsUnsaved (canonical_ruled (ruled_now machine)) served now
 
 -- serving, or the answer to a save, ended by the fault
@@ -148,6 +151,15 @@ BreaksOff (Save fault) first left now = (saves : ℕ) × (last : Place) × Saves
 BreaksOff SaveChanged first left now = (saves : ℕ) × (last : Place) × SavesTimes saves first last × IsServedUnsaved last left now
 BreaksOff other first left now = ⊥
 
+-- all lines were answered, and what they left could not be saved at the end, where it is to be
+abbrev pub IsUnsavedAtEnd : Bool → SessionFault → Place → Option (List ℕ) → Option (List Call) → Type 0
+IsUnsavedAtEnd keep fault first left now = (keep ≡ false) × IsSaveFault fault × (served : Option (List Call)) × (machine : Machine)
+    × ServesAll first left served machine × IsUnsaved (canonical_ruled (ruled_now machine)) served now
+
+-- a session that has begun ended by the fault
+abbrev pub FailsServing : Bool → SessionFault → Place → Option (List ℕ) → Option (List Call) → Type 0
+FailsServing keep fault first left now = BreaksOff fault first left now ⊎ IsUnsavedAtEnd keep fault first left now
+
 -- the lock was taken, and the file was loaded
 abbrev pub HasLoaded : Option (List Call) → Option (List Call) → (ℕ → List ℕ → Machine → Type 0) → Type 0
 HasLoaded start loaded P = (found : Found) × (size : ℕ) × (digest : List ℕ) × (machine : Machine)
@@ -162,6 +174,6 @@ IsUnbegun (Journal fault) start now =
 IsUnbegun other start now = ⊥
 
 -- what was done before a session ended by the fault: where it could not begin, nothing of the input was read
-abbrev pub EndsBy : SessionFault → Option (List ℕ) → Option (List ℕ) → Option (List Call) → Option (List Call) → Type 0
-EndsBy fault unread left start now =
-    ((left ≡ unread) × IsUnbegun fault start now) ⊎ ((first : Place) × HasBegun unread start first × BreaksOff fault first left now)
+abbrev pub EndsBy : Bool → SessionFault → Option (List ℕ) → Option (List ℕ) → Option (List Call) → Option (List Call) → Type 0
+EndsBy keep fault unread left start now =
+    ((left ≡ unread) × IsUnbegun fault start now) ⊎ ((first : Place) × HasBegun unread start first × FailsServing keep fault first left now)

@@ -3,11 +3,11 @@ ghost use Rattle.std.specs.Prelude.{◌≡◌, ◌⊎◌, [], ◌∷◌, None, S
 ghost use Rattle.sf_journal.specs.Records.{head_with};
 ghost use Rattle.sf_folder.specs.Calls.{Does, Locks, Reads, Refuses, Stays, Tries};
 ghost use Rattle.sf_folder.specs.Openings.{bytes_of as bytes_of_journal};
-ghost use Rattle.sf_folder.specs.Renewals.{Chooses, renewing_calls};
+ghost use Rattle.sf_folder.specs.Renewals.{renewing_calls};
 ghost use Rattle.sf_keeping.specs.Replays.{IsReplayed};
-ghost use Rattle.sf_session.specs.Openings.{BeginsWith, Counts, FindsBy, IsHeadAlone, IsHeadOf, IsSumOf, OpensBy, RenewsBy, bytes_that_count, warning_calls};
+ghost use Rattle.sf_session.specs.Openings.{BeginsWith, Counts, FindsBy, IsHeadOf, IsSumOf, OpensBy, RenewsBy, bytes_that_count, warning_calls};
 ghost use Rattle.sf_session.specs.Sessions.{BeginsBy};
-ghost use Rattle.sf_session.specs.Faults.{HasNoContent, IsUnbegun, IsUnloaded, IsUnopenedBy, IsUnreplayed, IsUnrenewed, TellsReplayFault};
+ghost use Rattle.sf_session.specs.Faults.{HasNoContent, IsUnbegun, IsUnchosen, IsUnloaded, IsUnopenedBy, IsUnreplayed, IsUnrenewed, TellsReplayFault};
 
 use super::fault::{HomeFault, JournalFault, SessionFault};
 use super::home::{Home, Opened};
@@ -206,11 +206,8 @@ fn chosen_of(
 ) -> Result<Chosen, SessionFault>
     ensures ok { IfOk result (λ chosen. Counts (head_with file.now.size file.now.digest)
         (option_map (λ bytes. bytes.now) journal.entry) (option_map (λ bytes. bytes.now) beside.entry) chosen) }
-    ensures fault { IfErr result (λ fault. (fault ≡ SessionFault.Journal JournalFault.Memory)
-        ⊎ ((fault ≡ SessionFault.Journal JournalFault.OtherFile)
-        × Chooses (head_with file.now.size file.now.digest)
-        (option_map (λ bytes. bytes.now) journal.entry) (option_map (λ bytes. bytes.now) beside.entry) None
-        × (IsHeadAlone (option_map (λ bytes. bytes.now) journal.entry) → ⊥))) }
+    ensures fault { IfErr result (λ fault. IsUnchosen fault (head_with file.now.size file.now.digest)
+        (option_map (λ bytes. bytes.now) journal.entry) (option_map (λ bytes. bytes.now) beside.entry)) }
 {
     match choose(alloc, file, journal, beside) {
         Ok(Some(chosen)) => Ok(chosen),

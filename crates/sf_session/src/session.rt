@@ -5,7 +5,7 @@ ghost use Rattle.sf_keeping.specs.History.{fresh_under, ruled_now};
 ghost use Rattle.sf_session.specs.Saving.{HasSaved, IsSumBehind, IsUnsaved};
 ghost use Rattle.sf_session.specs.Answering.{IsUnkept, SavesAnswered};
 ghost use Rattle.sf_session.specs.Sessions.{IsServed, IsSession, ServesAll};
-ghost use Rattle.sf_session.specs.Faults.{BreaksOff, EndsBy, IsSaveFault};
+ghost use Rattle.sf_session.specs.Faults.{BreaksOff, EndsBy, FailsServing, IsSaveFault};
 
 use super::fault::SessionFault;
 use super::home::Home;
@@ -37,7 +37,7 @@ pub fn run_session<H: Home, R: Read>(
     ensures ok { OnOk result (IsSession keep (R.remaining reader.old) (R.remaining reader.new) (H.calls home.old) (H.calls home.new)) }
 
     // What was done before the fault.
-    ensures fault { IfErr result (λ fault. EndsBy fault (R.remaining reader.old) (R.remaining reader.new) (H.calls home.old) (H.calls home.new)) }
+    ensures fault { IfErr result (λ fault. EndsBy keep fault (R.remaining reader.old) (R.remaining reader.new) (H.calls home.old) (H.calls home.new)) }
 {
     let begun = begin(alloc, home)?;
     let Begun { editor, sum } = begun;
@@ -56,7 +56,7 @@ fn serve<H: Home, R: Read>(
     ensures ok { OnOk result (IsServed keep
         (record { unread = R.remaining reader.old; ahead = []; calls = H.calls home.old; sum = sum; machine = editor })
         (R.remaining reader.new) (H.calls home.new)) }
-    ensures fault { IfErr result (λ fault. BreaksOff fault
+    ensures fault { IfErr result (λ fault. FailsServing keep fault
         (record { unread = R.remaining reader.old; ahead = []; calls = H.calls home.old; sum = sum; machine = editor })
         (R.remaining reader.new) (H.calls home.new)) }
 {
