@@ -1,5 +1,5 @@
 -- How a session goes on.
-use Rattle.std.proofs.Common.{◌≡◌, inl, inr, ℕ, suc, List, [], ◌∷◌, Option, refl, subst, Bool, false}
+use Rattle.std.proofs.Common.{◌≡◌, inl, inr, ℕ, suc, List, [], ◌∷◌, Option, refl, subst, Bool, false, sym}
 use Rattle.sf_journal.specs.Records.{head_with}
 use Rattle.sf_folder.specs.Calls.{Call, Does, Locks}
 use Rattle.sf_folder.proofs.Chains.{does-then}
@@ -14,9 +14,9 @@ use Rattle.sf_keeping.proofs.ServingLaws.{EndsKept-none}
 use Rattle.sf_session.specs.declared.fault.SessionFault.{SessionFault}
 use Rattle.sf_session.specs.declared.fault.SessionFault.TheVariants.{Home, Load, Journal, Serve, Save, SaveChanged}
 use Rattle.sf_session.specs.Openings.{BeginsWith, Found, IsOpened, finding_calls}
-use Rattle.sf_session.specs.Saving.{IsUnsaved}
+use Rattle.sf_session.specs.Saving.{HasSaved, IsUnsaved}
 use Rattle.sf_session.specs.Answering.{IsUnkept, SavesAnswered}
-use Rattle.sf_session.specs.Sessions.{HasBegun, Place, SavesOnce, SavesTimes, ServesAll}
+use Rattle.sf_session.specs.Sessions.{Ends, HasBegun, IsServed, Place, SavesOnce, SavesTimes, ServesAll}
 use Rattle.sf_session.specs.Faults.{BreaksOff, FailsServing, IsSaveFault, IsUnbegun, IsUnopenedBy}
 
 -- the lock was taken, the file loaded, and the journal opened
@@ -127,3 +127,9 @@ unserved-here first last saves before = unserved keeping.Memory first last saves
 pub unsaved-at-end : (keep : Bool) (fault : SessionFault) (first : Place) (left : Option (List ℕ)) (served now : Option (List Call)) (machine : Machine)
     → keep ≡ false → IsSaveFault fault → ServesAll first left served machine → IsUnsaved (canonical_ruled (ruled_now machine)) served now → FailsServing keep fault first left now
 unsaved-at-end keep fault first left served now machine ends is serves unsaved = inr (ends, is, served, machine, serves, unsaved)
+
+-- and what they left was saved
+pub served-saved : (keep : Bool) (first : Place) (left : Option (List ℕ)) (served now : Option (List Call)) (machine : Machine) (sum : ℕ)
+    → keep ≡ false → ServesAll first left served machine → HasSaved (canonical_ruled (ruled_now machine)) served now sum → IsServed keep first left now
+served-saved keep first left served now machine sum is serves saved =
+    record { served = served; machine = machine; serves = serves; ended = subst (λ k. Ends k (canonical_ruled (ruled_now machine)) served now) (sym is) (sum, saved) }
