@@ -73,7 +73,7 @@ def new_key(place: int) -> str:
 
 
 def tried_since(key: str) -> int | None:
-    """The place of the log up to which the line of a key is not to be looked for; none of a key that does not say it."""
+    """The place of the log up to which the line of a key is not searched; none of a key that does not say it."""
     given = uuid.UUID(key)
     return given.int >> _PLACE_AT if given.version == 8 else None
 
