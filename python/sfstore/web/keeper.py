@@ -15,7 +15,7 @@ from sfstore.kept import OpenFile
 from sfstore.mapgrid import GridChanged, MapGrid
 from sfstore.program import is_edit
 from sfstore.store import Answer, Editor, ProgramEnded, Refused, Store
-from sfstore.web.batches import Batch, Done, LineRefused, NotTakenBack, carry_out, carry_out_group, is_group, moved, take_back
+from sfstore.web.batches import Batch, Done, LineRefused, NotTakenBack, carry_out, carry_out_group, is_group, moved, refusal_of, take_back
 from sfstore.web.batchlog import BatchLog, new_mark
 from sfstore.web.changes import Change, Changes, Target, seen_of
 from sfstore.web.steps import LayerChange, Step, Steps
@@ -166,12 +166,16 @@ class Keeper:
         `LineRefused` where one of them is refused, and `ChangedMeanwhile` and `GridChanged` as for a line. `Overtaken`
         where they were made for one version of the store, and somebody has edited anything since.
         """
-        count = len(batch.lines)
 
         def job(store: Store) -> Done:
             if made_for not in (None, self._version):
                 raise Overtaken
-            return self._limited(store, count, lambda: self._carry_out_all(store, batch, grid, over))
+            self._check_grid(grid, over)
+            for line, seen in zip(batch.lines, batch.seen):
+                self._check_seen(Asked(batch.editor, batch.page, line, seen))
+            if len(batch.lines) > 1 and not is_group(batch.lines):
+                self._try(store, batch)
+            return self._limited(store, len(batch.lines), lambda: self._carry_out_all(store, batch))
 
         return self._do(job)
 
@@ -384,11 +388,8 @@ class Keeper:
             raise refused[0]
         return cast(Answer, answers[0])
 
-    def _carry_out_all(self, store: Store, batch: Batch, grid: str | None, over: int | None) -> Done:
-        self._check_grid(grid, over)
+    def _carry_out_all(self, store: Store, batch: Batch) -> Done:
         editor, page = batch.editor, batch.page
-        for line, seen in zip(batch.lines, batch.seen):
-            self._check_seen(Asked(editor, page, line, seen))
         self._log.give_up()
         if is_group(batch.lines):
             group = carry_out_group(_speaker(store, editor), batch.lines)
@@ -401,8 +402,6 @@ class Keeper:
                 self._log.begin(store.unsaved, editor, lines)
 
         mark = new_mark() if len(batch.lines) > 1 else ""
-        if len(batch.lines) > 1 and (self._steps.to_redo is not None or not store.layers()):
-            self._try(store, editor, batch.lines, mark)
         outcome = carry_out(_speaker(store, editor), batch.lines, begin, mark)
         number = self._version + 1
         asked = (Asked(editor, page, line, None) for line, _ in outcome.accepted)
@@ -416,25 +415,25 @@ class Keeper:
         self._log.end()
         return Done(outcome.answers, self._version)
 
-    def _try(self, store: Store, editor: int, lines: Sequence[str], mark: str) -> None:
+    def _try(self, store: Store, batch: Batch) -> None:
         """`LineRefused` where a line of a batch would be refused, of which a part would be carried out before, and taken back.
 
-        Nothing could be redone then that could be before, and a store without layers has no step that changes nothing: a part
-        of the batch could be redone. So it is tried in another program with the same content, by the same editor and with the
-        same mark, which make a line longer.
+        Something else could be redone then than before. So it is tried in another program with the same content, by the same
+        editor and with a mark, which make a line longer.
         """
         made = store.unsaved_lines
         trial = loaded(self._program, Snapshot(store._open_file(), made, self._version, self._file, self._grid, self._store_number))
         try:
-            outcome = self._limited(trial, len(lines), lambda: carry_out(_speaker(trial, editor), lines, mark=mark))
+            refused = self._limited(trial, len(lines), lambda: refusal_of(_speaker(trial, editor), lines, new_mark()))
         finally:
             trial.close(save=False)
-        if outcome.refused is not None:
-            raise outcome.refused
+        if refused is not None:
+            raise refused
 
     def _taken(self, asked: Asked, answer: str, group: int = 0, stays: bool = True) -> Edit:
         """Notes a line that was accepted. One that does not stay is undone by another of the same batch."""
         self._version += 1
+        editor, lines = batch.editor, batch.lines
         editor, page, line = asked.editor, asked.page, asked.line
         step = self._steps.take(editor, line, answer, group)
         moved = line.strip()
