@@ -468,6 +468,23 @@ class OtherStore(PageCase):
         self.assertEqual(serving.posted("/line", self.ann.key, **body, store=before)[0], 409)
         self.assertEqual(serving.call("/history", before=None, count=9)["entries"], [])
 
+    def test_a_map_that_can_not_be_had_is_tried_again(self):
+        page = self.opened()
+        away = self.path.with_name("away.sfs")
+        for child in self.programs(self.serving):
+            os.kill(child, signal.SIGKILL)
+        os.rename(self.path, away)
+        self.path.write_bytes(b"no store")
+        self.ann.posted("undo", 0)
+        page.until(lambda: "is tried again in 2 s" in page.text("#status"))
+        self.path.unlink()
+        os.rename(away, self.path)
+        page.until(lambda: "is tried again" not in page.text("#status"))
+        page.until(lambda: page.drawn("parcels") == 200)
+        # Nobody else has it looked at: the page has what is edited then.
+        self.ann.line("delete parcels 200")
+        page.until(lambda: page.drawn("parcels") == 199)
+
     def test_a_store_that_is_opened_again_or_saved_is_the_same(self):
         page = self.opened()
         page.pick("#target", "streets")
