@@ -41,10 +41,11 @@ class _News(NamedTuple):
 
 
 class _Begun(NamedTuple):
-    """What the user saw of the columns when they began to edit."""
+    """What the user saw of the store when they began to edit: of its columns, and which one it was."""
 
     version: int
     columns: list[Column]
+    store: int
 
 
 class Editing:
@@ -222,16 +223,21 @@ class Editing:
     def touch_columns(self) -> None:
         """Notes which columns the user sees, where it is their first edit."""
         if self._begun is None:
-            self._begun = _Begun(self.session.version, list(self.provider.mirror.columns))
+            self._begun = _Begun(self.session.version, list(self.provider.mirror.columns), self.session.placing.store)
 
     def renew(self) -> None:
         """Compares with a store that was lost meanwhile: what is as the user saw it they have seen."""
         if self._begun is not None:
             are_there = set(self._begun.columns) <= set(self.session.columns(self.provider.source.layer))
-            self._begun = _Begun(self.session.version if are_there else 0, self._begun.columns)
+            self._begun = self._begun._replace(version=self.session.version if are_there else 0)
         for number, seen in self._seen.items():
             version = self.session.version if self._content(number) == seen.content else 0
             self._seen[number] = _Seen(version, seen.content)
+
+    @property
+    def over(self) -> int:
+        """The number of the store over which was edited what was not sent. Another one must not take it."""
+        return self._begun.store if self._begun else int(self.session.placing.store)
 
     def touched(self) -> set[int]:
         """The identifiers of what has edits that were not sent."""
@@ -311,7 +317,9 @@ def prepare(editings: Sequence[Editing]) -> None:
         lines = [line.text for part in parts for line in part]
         seen = [each.version_of(line) for each, part in zip(editings, parts) for line in part]
         corners = [corner for each in editings for corner in each.corners()]
-        answers = editings[0].session.batch(lines, seen, corners) if lines else []
+        session = editings[0].session
+        other = next((each.over for each in editings if not session.is_same(each.over)), None)
+        answers = session.batch(lines, seen, corners, other) if lines else []
     except Exception as error:
         for each in editings:
             # Where it was sent, and not answered.
