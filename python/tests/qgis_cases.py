@@ -2748,7 +2748,7 @@ add parcels POLYGON ((1000 0, 1100 0, 1100 100, 1000 0))
         for _ in range(2):
             self.assertFalse(parcels.commitChanges())
             self.turn()
-            self.assertIn("town.sfs is another store than before", " ".join(self.said()))
+            self.assertIn("Copy what you need of your edits, and give them up: another store is here than the one over which they were made. (parcels)", self.said())
             self.assertEqual(len(parcels.editBuffer().addedFeatures()), 1)
         self.assertEqual(self.stored(), before)
         parcels.rollBack()
@@ -2787,6 +2787,16 @@ add parcels POLYGON ((1000 0, 1100 0, 1100 100, 1000 0))
         self.session._try_again()
         self.wait_for(lambda: self.session.is_connected)
         self.assertIn("Another store is in the place of town.sfs now", " ".join(self.said()))
+        self.kept_out(parcels)
+
+    def test_it_is_told_where_its_first_reading_fails(self):
+        parcels = self.edited()
+        self.replace(self.OTHER)
+        gone = mock.patch.object(Session, "identifiers", side_effect=ServerGone("a test wants it so"))
+        with gone as asked:
+            self.wait_for(lambda: asked.called)
+        self.wait_for(lambda: self.session.is_connected and parcels.getFeature(self.fid(1))["owner"] == "another")
+        self.assertEqual(len([each for each in self.said() if "Another store is in the place of town.sfs now" in each]), 1)
         self.kept_out(parcels)
 
     def test_what_was_selected_is_nothing_of_it(self):

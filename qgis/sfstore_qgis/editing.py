@@ -234,11 +234,6 @@ class Editing:
             version = self.session.version if self._content(number) == seen.content else 0
             self._seen[number] = _Seen(version, seen.content)
 
-    @property
-    def over(self) -> int:
-        """The number of the store over which was edited what was not sent. Another one must not take it."""
-        return self._begun.store if self._begun else int(self.session.placing.store)
-
     def touched(self) -> set[int]:
         """The identifiers of what has edits that were not sent."""
         buffer = self.layer.editBuffer()
@@ -255,6 +250,8 @@ class Editing:
         except FieldsDiffer:
             self.differs = True
             raise
+        if self._begun is not None and not self.session.is_same(self._begun.store):
+            raise NotSent("Copy what you need of your edits, and give them up: another store is here than the one over which they were made")
         self._check_read()
         edits = self._edits()
         if edits.dropped or edits.columns:
@@ -317,9 +314,7 @@ def prepare(editings: Sequence[Editing]) -> None:
         lines = [line.text for part in parts for line in part]
         seen = [each.version_of(line) for each, part in zip(editings, parts) for line in part]
         corners = [corner for each in editings for corner in each.corners()]
-        session = editings[0].session
-        other = next((each.over for each in editings if not session.is_same(each.over)), None)
-        answers = session.batch(lines, seen, corners, other) if lines else []
+        answers = editings[0].session.batch(lines, seen, corners) if lines else []
     except Exception as error:
         for each in editings:
             # Where it was sent, and not answered.

@@ -254,17 +254,16 @@ class Session(QObject):
             raise LayerRefused(f"Open the store again: {layer} has geometries of any kind, and is shown as a layer for each. An address names one by |geometrytype=polygon.")
         return Mirror(self, layer, shown, [Column(column["name"], column["type"]) for column in found["columns"]])
 
-    def batch(self, lines: Sequence[str], seen: Sequence[int | None], corners: Sequence[list[Any]] = (), over: int | None = None) -> list[str]:
+    def batch(self, lines: Sequence[str], seen: Sequence[int | None], corners: Sequence[list[Any]] = ()) -> list[str]:
         """Has lines carried out as a whole, and gives their answers. `Refusal` where one is refused.
 
         ``corners`` are new ones, which go into each border of others that passes there. Where there are very many, a map was
-        brought in, and none is. ``over`` is the number of the store for which they were made, where that may be another one than now.
+        brought in, and none is.
         """
         seconds = CALL_SECONDS + len(lines) * _LINE_SECONDS + len(corners) * _CORNER_SECONDS
         fitting = {"corners": list(corners), "shown": self.version} if 0 < len(corners) <= CORNERS_MAX else {}
-        placing = self.placing if over is None else self.placing._replace(store=over)
-        body: dict[str, Any] = {"page": self._token, "lines": list(lines), "seen": list(seen), **placing.named, **fitting}
-        answer = self.call("batch", seconds, **body)
+        body = {"lines": list(lines), "seen": list(seen), **self.placing.named, **fitting}
+        answer = self.call("batch", seconds, page=self._token, **body)
         if "refused" in answer:
             raise Refusal(answer["refused"])
         self.changes += 1
@@ -414,13 +413,14 @@ class Session(QObject):
         if is_other:
             self._numbers.clear()
         self._take(told)
+        if is_other and not is_moved:
+            # Before anything is read, which may fail: it is tried again then as of this store.
+            self.replaced.emit()
         for mirror in self.mirrors.values():
-            if is_moved:
+            if mirror.placed != self.placing.mark:
                 mirror.begin_anew("the store has another grid or reference system than before.")
             else:
                 mirror.load_anew()
-        if is_other:
-            self.replaced.emit()
 
     def _take(self, told: dict[str, Any]) -> None:
         """Takes the numbers of the store that the server has."""
