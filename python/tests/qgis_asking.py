@@ -497,7 +497,7 @@ class Elsewhere(Asked):
         self.assertIn("this geometry is in EPSG:25833.", " ".join(self.said()))
 
 
-class Replaced(Asked):
+class OtherStore(Asked):
     """Another store on the same grid has come in the place of the one that is shown, of which this QGIS has not heard."""
 
     lines = LINES
