@@ -2694,6 +2694,13 @@ class Lost(QgisCase):
         self.plugin.open(str(other))
         self.assertEqual(len(self.plugin.editings), 6)
 
+    def test_what_the_server_loads_the_store_for_has_the_time_for_it(self):
+        lines = [["column add parcels more int"], ["set parcels 1 number 5", "delete parcels 2"], ["column add parcels more int", "set parcels 1 more 5"]]
+        with mock.patch.object(self.session, "call", side_effect=ServerGone("a test wants it so")) as called:
+            for each in lines:
+                self.assertRaises(ServerGone, self.session.batch, each, [None] * len(each))
+        self.assertEqual([int(call.args[1]) for call in called.call_args_list], [5, 5, 30])
+
     def test_one_that_hangs_does_not_hang_qgis(self):
         parcels = self.layer()
         parcels.startEditing()

@@ -16,6 +16,7 @@ from sfstore.exchange.grid import Grid
 from sfstore.mapgrid import MapGrid
 from sfstore.mapunits import MapUnits
 from sfstore.results import Column
+from sfstore.web.batches import is_group
 from sfstore.web.changes import renamed_by
 from sfstore.web.client import CallFailed, Client, Events, ServerGone, start_server
 
@@ -27,7 +28,8 @@ __all__ = ["LayerRefused", "Placing", "Refusal", "Session", "Style"]
 
 # How long QGIS waits for a call at most, and for a server that is asked again whether it is there.
 CALL_SECONDS = 5.0
-# A line of a batch takes some 0.1 milliseconds. A step may be a large batch, and a save writes the whole store.
+# A line of a batch takes some 0.1 milliseconds. A step may be a large batch, a save writes the whole store, and for a batch that is no
+# group the server has another program load it.
 _LINE_SECONDS = 0.005
 _CORNER_SECONDS = 0.02
 _LONG_SECONDS = 30.0
@@ -260,7 +262,8 @@ class Session(QObject):
         ``corners`` are new ones, which go into each border of others that passes there. Where there are very many, a map was
         brought in, and none is.
         """
-        seconds = CALL_SECONDS + len(lines) * _LINE_SECONDS + len(corners) * _CORNER_SECONDS
+        is_short = len(lines) == 1 or is_group(lines)
+        seconds = (CALL_SECONDS if is_short else _LONG_SECONDS) + len(lines) * _LINE_SECONDS + len(corners) * _CORNER_SECONDS
         fitting = {"corners": list(corners), "shown": self.version} if 0 < len(corners) <= CORNERS_MAX else {}
         body = {"lines": list(lines), "seen": list(seen), **self.placing.named, **fitting}
         answer = self.call("batch", seconds, page=self._token, **body)

@@ -3,7 +3,7 @@
 Edits of features are a group, which the program carries out so (`carry_out_group`). No group has lines that edit layers
 or columns, nor as many as a batch may have. Of such a batch each geometry is judged by a question first, then the lines
 are carried out one after another, and where one is refused nevertheless those before it are undone. `carry_out` alone
-knows of this.
+knows of this. That leaves a step to redo: so whoever keeps a store asks `refusal_of` another program before.
 """
 
 from __future__ import annotations
