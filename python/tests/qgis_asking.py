@@ -497,6 +497,24 @@ class Elsewhere(Asked):
         self.assertIn("this geometry is in EPSG:25833.", " ".join(self.said()))
 
 
+class OtherStore(Asked):
+    """Another store on the same grid has come in the place of the one that is shown, of which this QGIS has not heard."""
+
+    lines = LINES
+    OTHER = LINES.replace(b"1100 100", b"1100 200")
+
+    def test_an_answer_of_another_store_is_none(self):
+        wells = self.layer("wells")
+        asked = ["sfstore_area()", "sfstore_length()", "sfstore_distance('parcels', 2, make_point(500000, 5600000))", "sfstore_near('parcels', 9, make_point(500000, 5600000))"]
+        self.assertEqual(self.asked("sfstore_area()", 2), 100.0)
+        self.session.changes += 1
+        self.replace(self.OTHER)
+        for each in asked:
+            self.assertIn("town.sfs is another store than before", str(self.asked(each, 2)))
+        self.wait_for(lambda: self.asked("sfstore_area()", 2) == 150.0)
+        self.assertEqual(self.asked("sfstore_area('parcels', 2)", 1, wells), 150.0)
+
+
 class Examples(QgisCase):
     """What the page and the help of the functions say, in the town."""
 
@@ -736,6 +754,18 @@ class Algorithms(Toolbox):
         self.assertEqual(self.asked_near(), [1])
         self.place(self.path, grid=["500000", "5600000", "0.01"])
         said = "town.sfs has another grid, or another reference system, than when it was opened"
+        with self.assertRaisesRegex(QgsProcessingException, said):
+            algorithm.runPrepared(near, self.context, self.feedback)
+        self.assertIn(said, self.asked_near())
+
+    def test_a_question_about_another_store_is_not_answered(self):
+        wells = self.layer("wells")
+        near = {"LAYER": wells.id(), "POINT": "500030,5600050", "DISTANCE": 1}
+        algorithm = self.begun("near", **near)
+        self.assertTrue(algorithm.prepare(near, self.context, self.feedback))
+        self.assertEqual(self.asked_near(), [1])
+        self.replace(LINES.replace(b"add wells POINT (300 500)", b"add wells POINT (299 500)"))
+        said = "town.sfs is another store than before"
         with self.assertRaisesRegex(QgsProcessingException, said):
             algorithm.runPrepared(near, self.context, self.feedback)
         self.assertIn(said, self.asked_near())

@@ -2694,6 +2694,13 @@ class Lost(QgisCase):
         self.plugin.open(str(other))
         self.assertEqual(len(self.plugin.editings), 6)
 
+    def test_what_the_server_loads_the_store_for_has_the_time_for_it(self):
+        lines = [["column add parcels more int"], ["set parcels 1 number 5", "delete parcels 2"], ["column add parcels more int", "set parcels 1 more 5"]]
+        with mock.patch.object(self.session, "call", side_effect=ServerGone("a test wants it so")) as called:
+            for each in lines:
+                self.assertRaises(ServerGone, self.session.batch, each, [None] * len(each))
+        self.assertEqual([int(call.args[1]) for call in called.call_args_list], [5, 5, 30])
+
     def test_one_that_hangs_does_not_hang_qgis(self):
         parcels = self.layer()
         parcels.startEditing()
@@ -2717,6 +2724,127 @@ class Lost(QgisCase):
         parcels.rollBack()
         self.settle()
         self.assert_alike()
+
+
+class Replaced(QgisCase):
+    """Another store on the same grid comes in the place of the one that is shown."""
+
+    OTHER = b"""layer add parcels polygon
+column add parcels number int
+column add parcels owner text
+layer add trees point
+add parcels POLYGON ((0 0, 300 0, 300 400, 0 0))
+set parcels 1 owner 'another'
+add parcels POLYGON ((1000 0, 1100 0, 1100 100, 1000 0))
+"""
+
+    def edited(self):
+        """Edits of each kind that are not sent."""
+        parcels = self.layer()
+        parcels.startEditing()
+        self.draw(SQUARE, owner="Ann's")
+        self.set(2, "owner", "Ann's")
+        self.turn()
+        self.said()
+        return parcels
+
+    def kept_out(self, parcels):
+        """The other store is shown, and gets nothing of what was edited before, which stays until it is given up."""
+        before = self.stored()
+        self.assertEqual(len(before), 2)
+        for _ in range(2):
+            self.assertFalse(parcels.commitChanges())
+            self.turn()
+            self.assertIn("Copy what you need of your edits, and give them up: another store is here than the one over which they were made. (parcels)", self.said())
+            self.assertEqual(len(parcels.editBuffer().addedFeatures()), 1)
+        self.assertEqual(self.stored(), before)
+        parcels.rollBack()
+        self.settle()
+        self.assert_alike()
+        self.assertEqual(self.feature(1)["owner"], "another")
+        parcels.startEditing()
+        self.draw(SQUARE, owner="Ann's")
+        self.assertTrue(parcels.commitChanges(), parcels.commitErrors())
+        self.assertTrue(self.stored()[3].endswith("owner='Ann''s'"))
+        self.settle()
+        self.assert_alike()
+
+    def test_it_gets_nothing_of_what_was_edited_before(self):
+        parcels = self.edited()
+        self.replace(self.OTHER)
+        # It is not heard yet.
+        self.assertFalse(parcels.commitChanges())
+        self.assertIn("town.sfs is another store than before", " ".join(parcels.commitErrors()))
+        self.turn(0.5)
+        said = " ".join(self.said())
+        self.assertIn("What was not sent of parcels stays until you give it up, and is not sent to this store: copy what you need of it. Another store is in the place of town.sfs now", said)
+        self.assertIn("the store has no streets, wells any more", said)
+        self.assertIn("Open the store again to show what is new: trees.", said)
+        self.kept_out(parcels)
+
+    def test_nor_behind_another_server(self):
+        parcels = self.edited()
+        self.server().kill()
+        self.server().wait()
+        self.wait_for(lambda: not self.session.is_connected)
+        self.session._again.stop()
+        self.make(self.OTHER)
+        self.place(self.path)
+        self.path.with_name("town.sfs.journal").unlink(missing_ok=True)
+        self.session._try_again()
+        self.wait_for(lambda: self.session.is_connected)
+        self.assertIn("Another store is in the place of town.sfs now", " ".join(self.said()))
+        self.kept_out(parcels)
+
+    def test_it_is_told_where_its_first_reading_fails(self):
+        parcels = self.edited()
+        self.replace(self.OTHER)
+        gone = mock.patch.object(Session, "identifiers", side_effect=ServerGone("a test wants it so"))
+        with gone as asked:
+            self.wait_for(lambda: asked.called)
+        self.wait_for(lambda: self.session.is_connected and parcels.getFeature(self.fid(1))["owner"] == "another")
+        self.assertEqual(len([each for each in self.said() if "Another store is in the place of town.sfs now" in each]), 1)
+        self.kept_out(parcels)
+
+    def test_what_was_selected_is_nothing_of_it(self):
+        parcels = self.layer()
+        parcels.selectByIds([self.fid(1), self.fid(2)])
+        self.replace(self.OTHER)
+        self.wait_for(lambda: parcels.featureCount() == 2)
+        self.turn(0.3)
+        self.assertEqual(parcels.selectedFeatureCount(), 0)
+
+    def test_neither_what_is_sent_at_once_nor_a_step_or_a_save_is_meant_for_it(self):
+        self.plugin.set_at_once(True)
+        parcels = self.layer()
+        parcels.startEditing()
+        self.replace(self.OTHER)
+        self.draw(SQUARE, owner="Ann's")
+        self.plugin.send()
+        for act in (partial(self.session.line, "undo"), partial(self.session.line, "save"), partial(self.session.save_style, "parcels", "", None, None)):
+            with self.assertRaisesRegex(CallFailed, "is another store than before"):
+                act()
+        self.turn(0.5)
+        self.assertIn("town.sfs is another store than before", " ".join(self.said()))
+        self.assertEqual(len(self.stored()), 2)
+        self.assertFalse(parcels.isModified())
+        self.settle()
+        self.assert_alike()
+
+    def test_a_store_that_was_saved_is_the_same_behind_another_server(self):
+        parcels = self.edited()
+        ben = self.ben()
+        ben.call("line", page="ben", line="save")
+        self.turn(0.3)
+        ben.close()
+        self.server().kill()
+        self.server().wait()
+        self.wait_for(lambda: not self.session.is_connected)
+        self.wait_for(lambda: self.session.is_connected)
+        self.assertNotIn("Another store", " ".join(self.said()))
+        self.assertTrue(parcels.commitChanges(), parcels.commitErrors())
+        self.assertIn("owner='Ann''s'", self.stored()[2])
+        self.assertIn(201, self.stored())
 
 
 class AtRandom(QgisCase):

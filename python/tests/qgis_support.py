@@ -5,10 +5,12 @@ Only `test_qgis` starts them, in processes of their own: QGIS may end a process.
 
 from __future__ import annotations
 
+import contextlib
 import datetime
 import html
 import json
 import os
+import signal
 import sys
 import time
 from decimal import Decimal
@@ -156,6 +158,19 @@ class QgisCase(WebCase):
     def server(self):
         """The process of the server."""
         return client._servers[os.path.realpath(self.path)].process
+
+    def replace(self, lines):
+        """Has another store, on the same grid, in the place of this one, whose programs have ended; the server goes on."""
+        for child in os.popen(f"pgrep -P {self.server().pid}").read().split():
+            os.kill(int(child), signal.SIGKILL)
+        other = self.folder / "other.sfs"
+        self.make(lines, other)
+        os.replace(other, self.path)
+        self.place(self.path)
+        self.path.with_name("town.sfs.journal").unlink(missing_ok=True)
+        # The first one who asks finds them ended.
+        with Client(str(self.path), "Ben", 30) as ben, contextlib.suppress(client.CallFailed):
+            ben.call("line", page="ben", line="undo")
 
     def layer(self, name="parcels"):
         [found] = QgsProject.instance().mapLayersByName(name)

@@ -18,7 +18,7 @@ from sfstore.mapunits import MapUnits
 from sfstore.results import Answer, Near, Refused
 from sfstore.web.client import Client
 
-from .session import Refusal
+from .session import Placing, Refusal
 from .writing import NotSent
 
 __all__ = ["Asking", "OutOfReach", "asked", "nearest_of", "reach_of", "steps_of"]
@@ -37,13 +37,13 @@ class Asking:
     has_group = False
     closed = False
 
-    def __init__(self, path: str, name: str, seconds: float, grid: str) -> None:
+    def __init__(self, path: str, name: str, seconds: float, placing: Placing) -> None:
         """Connects under the name of somebody. `ServerGone` where no server answers; `seconds` is how long one question may take.
 
-        ``grid`` is the mark of the grid by which it is asked. Over another one the server answers nothing: a distance or a
-        coordinate would be another one.
+        ``placing`` has the store that is asked, and the grid by which it is. Over another one the server answers nothing: a
+        feature, a distance or a coordinate would be another one.
         """
-        self.grid = grid
+        self.placing = placing
         self._client = Client(path, name, seconds)
 
     def check_user(self) -> None:
@@ -60,7 +60,7 @@ class Asking:
     abort = stop = close
 
     def _answer(self, line: str) -> Answer:
-        told = self._client.call("line", page=_PAGE, line=line, grid=self.grid)
+        told = self._client.call("line", page=_PAGE, line=line, **self.placing.named)
         if "refused" in told:
             raise Refusal(told["refused"])
         if "rows" not in told:
@@ -72,9 +72,9 @@ class Asking:
 
 
 @contextmanager
-def asked(path: str, name: str, seconds: float, grid: str) -> Iterator[Editor]:
-    """A store that can be asked in the body. What it answers, and what it is asked, is in steps of the grid that has the mark."""
-    asking = Asking(path, name, seconds, grid)
+def asked(path: str, name: str, seconds: float, placing: Placing) -> Iterator[Editor]:
+    """A store that can be asked in the body. What it answers, and what it is asked, is in steps of its grid."""
+    asking = Asking(path, name, seconds, placing)
     try:
         yield Editor(asking, "")
     finally:

@@ -41,10 +41,11 @@ class _News(NamedTuple):
 
 
 class _Begun(NamedTuple):
-    """What the user saw of the columns when they began to edit."""
+    """What the user saw of the store when they began to edit: of its columns, and which one it was."""
 
     version: int
     columns: list[Column]
+    store: int
 
 
 class Editing:
@@ -222,13 +223,13 @@ class Editing:
     def touch_columns(self) -> None:
         """Notes which columns the user sees, where it is their first edit."""
         if self._begun is None:
-            self._begun = _Begun(self.session.version, list(self.provider.mirror.columns))
+            self._begun = _Begun(self.session.version, list(self.provider.mirror.columns), self.session.placing.store)
 
     def renew(self) -> None:
         """Compares with a store that was lost meanwhile: what is as the user saw it they have seen."""
         if self._begun is not None:
             are_there = set(self._begun.columns) <= set(self.session.columns(self.provider.source.layer))
-            self._begun = _Begun(self.session.version if are_there else 0, self._begun.columns)
+            self._begun = self._begun._replace(version=self.session.version if are_there else 0)
         for number, seen in self._seen.items():
             version = self.session.version if self._content(number) == seen.content else 0
             self._seen[number] = _Seen(version, seen.content)
@@ -249,6 +250,8 @@ class Editing:
         except FieldsDiffer:
             self.differs = True
             raise
+        if self._begun is not None and not self.session.is_same(self._begun.store):
+            raise NotSent("Copy what you need of your edits, and give them up: another store is here than the one over which they were made")
         self._check_read()
         edits = self._edits()
         if edits.dropped or edits.columns:

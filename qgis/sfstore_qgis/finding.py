@@ -195,7 +195,7 @@ class Finding(QgsProcessingAlgorithm):
 
     def processAlgorithm(self, parameters: Any, context: Any, feedback: Any) -> dict[str, Any]:
         place = self.place
-        with _in_words(place.grid), asked(place.path, self._user, _SECONDS, place.placing.mark) as store:
+        with _in_words(place.grid), asked(place.path, self._user, _SECONDS, place.placing) as store:
             found = self.found(store, parameters, context, feedback)
         if feedback.isCanceled():
             # What was found until then is not all.

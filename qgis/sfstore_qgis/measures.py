@@ -72,7 +72,7 @@ class Measures:
         return bool(self._of("shape", mirror, number) == _sum_of(geometry))
 
     def ask(self, question: Callable[[Editor], _T], placing: Placing) -> _T:
-        """The answer of another question, in steps of a grid. `CallFailed` where the store has another one by now."""
+        """The answer of another question, in steps of a grid. `CallFailed` where the store has another one by now, or is another store."""
         with self._one_at_a_time:
             return self._asked(question, placing)
 
@@ -127,8 +127,8 @@ class Measures:
 
     def _asked_once(self, question: Callable[[Editor], _T], placing: Placing) -> _T:
         if self._asking is None:
-            self._asking = Asking(self._session.path, self._name, _SECONDS, placing.mark)
-        self._asking.grid = placing.mark
+            self._asking = Asking(self._session.path, self._name, _SECONDS, placing)
+        self._asking.placing = placing
         try:
             return question(Editor(self._asking, ""))
         except ServerGone:

@@ -63,6 +63,8 @@ class Mirror(QObject):
         self.is_behind = False
         """Whether the store has other columns, which wait until nothing is edited."""
         self._is_beginning_anew = False
+        self.placed = ""
+        """The mark of the grid on which all lies that it has."""
         self._begin(columns)
 
     def _begin(self, columns: Sequence[Column]) -> None:
@@ -72,7 +74,9 @@ class Mirror(QObject):
         self.layer = QgsVectorLayer(f"{WKB_NAMES[self.kind]}?crs={self.session.crs.authid()}", self.name, "memory")
         self.memory = self.layer.dataProvider()
         self.fields = Fields(self.memory, columns, self.session.choices(self.name), self.mark)
+        placed = self.session.placing.mark
         self.load()
+        self.placed = placed
         if len(self.fids) <= INDEX_AT_ONCE_MAX:
             self.memory.createSpatialIndex()
 

@@ -283,6 +283,7 @@ class Plugin:
             self._connect(session.lost, partial(self._lost, session))
             self._connect(session.renewed, partial(self._renewed, session))
             self._connect(session.placed_anew, partial(self._placed_anew, session))
+            self._connect(session.replaced, partial(self._replaced, session))
             self._connect(session.layers_changed, lambda *told: self.tried(partial(self._tell_layers, session, *told)))
 
     def _place(self, editing: Editing) -> None:
@@ -306,6 +307,17 @@ class Plugin:
             self.teller.tell(session.placing_fault, Qgis.Warning)
         for editing in self._of(session):
             self._place(editing)
+
+    def _replaced(self, session: Session) -> None:
+        """Says that another store is shown now, and has nobody work on with what was chosen of the one before."""
+        unsent = []
+        for editing in self._of(session):
+            editing.layer.removeSelection()
+            if editing.layer.isModified():
+                unsent.append(editing.layer.name())
+        kept = f"What was not sent of {', '.join(unsent)} stays until you give it up, and is not sent to this store: copy what you need of it. " if unsent else ""
+        self.teller.tell(f"{kept}Another store is in the place of {_file_of(session)} now, and is shown.", Qgis.Critical)
+        self.tried(partial(self._tell_layers, session, None, ""))
 
     def _connect(self, signal: Any, slot: Callable[..., object]) -> None:
         """Has a slot follow a signal until the plugin is unloaded.

@@ -16,6 +16,7 @@ from sfstore.exchange.grid import Grid
 from sfstore.mapgrid import MapGrid
 from sfstore.mapunits import MapUnits
 from sfstore.results import Column
+from sfstore.web.batches import is_group
 from sfstore.web.changes import renamed_by
 from sfstore.web.client import CallFailed, Client, Events, ServerGone, start_server
 
@@ -27,7 +28,8 @@ __all__ = ["LayerRefused", "Placing", "Refusal", "Session", "Style"]
 
 # How long QGIS waits for a call at most, and for a server that is asked again whether it is there.
 CALL_SECONDS = 5.0
-# A line of a batch takes some 0.1 milliseconds. A step may be a large batch, and a save writes the whole store.
+# A line of a batch takes some 0.1 milliseconds. A step may be a large batch, a save writes the whole store, and for a batch that is no
+# group the server has another program load it.
 _LINE_SECONDS = 0.005
 _CORNER_SECONDS = 0.02
 _LONG_SECONDS = 30.0
@@ -75,11 +77,18 @@ class Placing(NamedTuple):
     crs: Any
     mark: str
     """That of its grid, by which the server knows it: what is asked or sent by another grid is refused."""
+    store: int = 0
+    """The server's number of the store that lies so: what is asked of another one, or sent to it, is refused."""
 
     @property
     def units(self) -> MapUnits:
         """The coordinates of the map."""
         return MapUnits(*self.grid.words)
+
+    @property
+    def named(self) -> dict[str, Any]:
+        """What a call says of that for which it was made."""
+        return {"grid": self.mark, "store": self.store}
 
 
 class Session(QObject):
@@ -91,6 +100,8 @@ class Session(QObject):
     """There are other layers than before: the two names of one that was renamed, or None, and who did it."""
     placed_anew = pyqtSignal()
     """The grid or the reference system is another one: another map was put in the place of the store."""
+    replaced = pyqtSignal()
+    """Another store was put in the place of this one."""
     kind_hidden = pyqtSignal(str, str)
     """A layer of any kind has a geometry of a kind that is not shown."""
     styled = pyqtSignal(str, str, str, str)
@@ -126,6 +137,8 @@ class Session(QObject):
         """Where it lies now. Other threads take it as a whole: another map may come in the store's place."""
         self.mirrors: dict[tuple[str, str], Mirror] = {}
         self.steps: dict[str, dict[str, Any] | None] = {"undo": None, "redo": None}
+        # The numbers that this store has had, and the one that it has where another server opens it.
+        self._numbers: set[int] = set()
         self._hidden: set[tuple[str, str]] = set()
         self.version = 0
         self.changes = 0
@@ -141,7 +154,7 @@ class Session(QObject):
         self._again.timeout.connect(self._try_again)
         # A large store takes its time until it is loaded.
         start_server(path, Session.program, _STARTING_SECONDS)
-        self._connect(_STARTING_SECONDS)
+        self._take(self._connect(_STARTING_SECONDS))
 
     @property
     def grid(self) -> Grid:
@@ -175,7 +188,7 @@ class Session(QObject):
 
     def layers(self) -> list[dict[str, Any]]:
         """The layers in drawing order: name, kind and columns of each."""
-        found: list[dict[str, Any]] = self.call("map")["layers"]
+        found: list[dict[str, Any]] = self._asked("map")["layers"]
         return found
 
     def columns(self, layer: str) -> list[Column]:
@@ -198,7 +211,7 @@ class Session(QObject):
 
     def identifiers(self, layer: str) -> list[int]:
         """The features of a layer; none where it is not there any more."""
-        found: list[int] = _checked(self.call("ids", layer=layer)).get("ids", [])
+        found: list[int] = _checked(self._asked("ids", layer=layer)).get("ids", [])
         return found
 
     def rows(self, layer: str, numbers: Sequence[int]) -> list[str]:
@@ -207,13 +220,13 @@ class Session(QObject):
 
     def parts(self, layer: str, numbers: Sequence[int]) -> Iterator[list[str]]:
         """The rows of features, up to some thousands at a time: the next ones are on their way meanwhile."""
-        count = _ROWS_FIRST
+        count, store = _ROWS_FIRST, self.placing.store
 
         def bodies() -> Iterator[dict[str, Any]]:
             begin = 0
             while begin < len(numbers):
                 part = list(numbers[begin : begin + count])
-                yield {"layer": layer, "ids": part}
+                yield {"layer": layer, "ids": part, "store": store}
                 begin += len(part)
 
         try:
@@ -249,9 +262,11 @@ class Session(QObject):
         ``corners`` are new ones, which go into each border of others that passes there. Where there are very many, a map was
         brought in, and none is.
         """
-        seconds = CALL_SECONDS + len(lines) * _LINE_SECONDS + len(corners) * _CORNER_SECONDS
+        is_short = len(lines) == 1 or is_group(lines)
+        seconds = (CALL_SECONDS if is_short else _LONG_SECONDS) + len(lines) * _LINE_SECONDS + len(corners) * _CORNER_SECONDS
         fitting = {"corners": list(corners), "shown": self.version} if 0 < len(corners) <= CORNERS_MAX else {}
-        answer = self.call("batch", seconds, page=self._token, lines=list(lines), seen=list(seen), grid=self.placing.mark, **fitting)
+        body = {"lines": list(lines), "seen": list(seen), **self.placing.named, **fitting}
+        answer = self.call("batch", seconds, page=self._token, **body)
         if "refused" in answer:
             raise Refusal(answer["refused"])
         self.changes += 1
@@ -260,10 +275,14 @@ class Session(QObject):
         found: list[str] = answer["answers"]
         return found
 
+    def is_same(self, store: int) -> bool:
+        """Whether a number is that of the store that is shown, which another server may have given another one."""
+        return store in self._numbers
+
     def line(self, line: str) -> dict[str, Any]:
         """The answer of a line of the console. `Refusal` where it is refused."""
         seconds = _LONG_SECONDS if line in ("undo", "redo", "save") else CALL_SECONDS
-        answer = self.call("line", seconds, page=self._token, line=line, seen=self.version, grid=self.placing.mark)
+        answer = self.call("line", seconds, page=self._token, line=line, seen=self.version, **self.placing.named)
         if "refused" in answer:
             raise Refusal(answer["refused"])
         return answer
@@ -274,7 +293,7 @@ class Session(QObject):
 
     def style(self, layer: str, kind: str) -> Style:
         """How a layer, or one kind of its geometries, looks in QGIS as the store has it. `LayerRefused` where the file of the styles is damaged."""
-        told = self.call("qml", layer=layer, kind=kind)
+        told = self._asked("qml", layer=layer, kind=kind)
         if told["fault"]:
             raise LayerRefused(told["fault"])
         return Style(told["qml"], told["by"], told["mark"])
@@ -284,7 +303,7 @@ class Session(QObject):
 
         Gives its mark, and the layers that were dropped and have lost their styles, as there was no room for them.
         """
-        answer = self.call("save-qml", layer=layer, kind=kind, qml=qml, seen=seen)
+        answer = self._asked("save-qml", layer=layer, kind=kind, qml=qml, seen=seen)
         if "refused" in answer:
             raise Refusal(answer["refused"])
         return answer["mark"], answer.get("gave_way", [])
@@ -315,6 +334,10 @@ class Session(QObject):
 
         QTimer.singleShot(0, reload)
 
+    def _asked(self, name: str, **body: Any) -> dict[str, Any]:
+        """The answer of a call, which the server refuses where the store is another one than is shown here."""
+        return self.call(name, store=self.placing.store, **body)
+
     def call(self, name: str, seconds: float = CALL_SECONDS, /, **body: Any) -> dict[str, Any]:
         """The answer of a call. `ServerGone` where there is none within some seconds, or none is waited for."""
         client = self._connected()
@@ -330,8 +353,8 @@ class Session(QObject):
             raise ServerGone(f"Wait a moment: the server of {os.path.basename(self.path)} does not answer, and is tried again.")
         return self._client
 
-    def _connect(self, seconds: float) -> None:
-        """Connects to the server that is there. `ServerGone` where it does not answer.
+    def _connect(self, seconds: float) -> dict[str, Any]:
+        """Connects to the server that is there, and gives what it says of the map. `ServerGone` where it does not answer.
 
         One that hangs does not greet. One that does may take some seconds for its first question.
         """
@@ -355,6 +378,7 @@ class Session(QObject):
         self.steps = {"undo": told["undo"], "redo": told["redo"]}
         self._notifier = QSocketNotifier(events.fileno(), QSocketNotifier.Read)
         self._notifier.activated.connect(self._hear)
+        return told
 
     def _disconnect(self) -> None:
         if self._notifier is not None:
@@ -377,8 +401,7 @@ class Session(QObject):
         """Connects again, to another server where the last one has ended: all that was answered is there."""
         try:
             start_server(self.path, Session.program, 0.0)
-            self._connect(_AGAIN_SECONDS)
-            self._load_anew()
+            self._load_anew(self._connect(_AGAIN_SECONDS))
         except (CallFailed, Refusal, ServerGone):
             self._disconnect()
             self._wait = min(2 * self._wait, _AGAIN_MILLISECONDS_MAX)
@@ -386,21 +409,33 @@ class Session(QObject):
         else:
             self.renewed.emit()
 
-    def _load_anew(self) -> None:
-        """Has all mirrors read anew what the store is now, be it on another grid."""
+    def _load_anew(self, told: dict[str, Any]) -> None:
+        """Has all mirrors read anew what the store is now, be it on another grid, or another store. ``told`` is what the server says of the map."""
+        is_other = not self.is_same(told["store"])
         is_moved = self._place_anew()
+        if is_other:
+            self._numbers.clear()
+        self._take(told)
+        if is_other and not is_moved:
+            # Before anything is read, which may fail: it is tried again then as of this store.
+            self.replaced.emit()
         for mirror in self.mirrors.values():
-            if is_moved:
+            if mirror.placed != self.placing.mark:
                 mirror.begin_anew("the store has another grid or reference system than before.")
             else:
                 mirror.load_anew()
+
+    def _take(self, told: dict[str, Any]) -> None:
+        """Takes the numbers of the store that the server has."""
+        self.placing = self.placing._replace(store=told["store"])
+        self._numbers |= {told["store"], told["file"]}
 
     def _place_anew(self) -> bool:
         """Takes the grid and the reference system that the store has now. Whether they are others than before."""
         placing = _placed(self.path)
         if placing.mark == self.placing.mark:
             return False
-        self.placing = placing
+        self.placing = placing._replace(store=self.placing.store)
         self.placed_anew.emit()
         return True
 
@@ -420,7 +455,7 @@ class Session(QObject):
 
     def _follow(self, news: Followed) -> None:
         if news.is_anew:
-            self._load_anew()
+            self._load_anew(self.call("map"))
             return
         for (layer, _), mirror in self.mirrors.items():
             if layer in news.whole:
@@ -436,6 +471,8 @@ class Session(QObject):
             told = self.call("map")
             self.version, event = told["version"], {**event, **told}
             self.renewed.emit()
+        if "saved" in event:
+            self._numbers.add(event["file"])
         for verb in self.steps:
             if verb in event:
                 self.steps[verb] = event[verb]

@@ -3,7 +3,7 @@
 Edits of features are a group, which the program carries out so (`carry_out_group`). No group has lines that edit layers
 or columns, nor as many as a batch may have. Of such a batch each geometry is judged by a question first, then the lines
 are carried out one after another, and where one is refused nevertheless those before it are undone. `carry_out` alone
-knows of this.
+knows of this. That leaves a step to redo: so whoever keeps a store asks `refusal_of` another program before.
 """
 
 from __future__ import annotations
@@ -32,6 +32,7 @@ __all__ = [
     "carry_out_group",
     "is_group",
     "moved",
+    "refusal_of",
     "take_back",
 ]
 
@@ -172,6 +173,19 @@ def carry_out(
     Lines that name a new feature as ``last`` are carried out behind all others. ``begin`` is called
     with the lines in this order, before the first of them is carried out. Each is sent with ``mark`` at its end.
     """
+    outcome = _carried(editor, lines, begin, mark)
+    if outcome.refused is None:
+        return outcome
+    return outcome._replace(accepted=outcome.accepted + take_back(editor, len(outcome.accepted)))
+
+
+def refusal_of(editor: Editor, lines: Sequence[str], mark: str) -> LineRefused | None:
+    """Carries out lines in a store that nobody needs behind it, and gives the one that is refused, if one is: nothing is taken back."""
+    return _carried(editor, lines, lambda sent: None, mark).refused
+
+
+def _carried(editor: Editor, lines: Sequence[str], begin: Callable[[list[str]], object], mark: str) -> Outcome:
+    """What becomes of lines up to the first part of them in which one is refused."""
     late = _late_ones(lines)
     refused = _judged(editor, lines)
     if refused is not None:
@@ -187,7 +201,7 @@ def carry_out(
         accepted += _sent(editor, numbered, answers, mark)
         refused = _first_refused(answers)
     if refused is not None:
-        return Outcome([], accepted + take_back(editor, len(accepted)), refused)
+        return Outcome([], accepted, refused)
     return Outcome([str(answers[at]) for at in range(len(lines))], accepted, None)
 
 

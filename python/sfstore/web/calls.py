@@ -37,7 +37,7 @@ from sfstore.web.drawn import PAGE_COMMANDS, PAGE_TOOLS, Undrawn, drawn_in
 from sfstore.web.editors import Editors
 from sfstore.web.events import Events
 from sfstore.web.history import ENTRIES_MAX, History
-from sfstore.web.keeper import Asked, ChangedMeanwhile, Edit, Keeper, Overtaken, Unavailable
+from sfstore.web.keeper import Asked, ChangedMeanwhile, Edit, Keeper, Overtaken, StoreChanged, Unavailable
 from sfstore.web.logins import Logins
 from sfstore.web.mirror import Mirror
 from sfstore.web.pictures import LEVEL_MAX, Picture, Pictures, Tile
@@ -170,10 +170,13 @@ class Calls:
     def _map(self, editor: int, body: Body) -> Body:
         """The layers with their columns, whose step is next, and how far the map reaches.
 
-        They are those of a version of a store, which ``content`` and ``store`` name.
+        They are those of a version of a store, which ``content`` and ``store`` name. ``file`` is the number that the store has
+        for a later server.
         """
+        number, file = self._keeper.last_store, self._keeper.last_file
 
         def question(store: Store) -> Body:
+            self._check_over(body, self._looks)
             layers, rules = store.layers(), _by_column(store.rules())
             told_layers = [
                 {
@@ -185,7 +188,8 @@ class Calls:
             ]
             grid = self._looks.grid
             told = {"grid": _told_grid(grid), "grid_mark": grid.mark, "grid_fault": grid.fault or None}
-            shown = {"store": self._looks.number, "content": self._looks.version}
+            now = self._looks.number
+            shown = {"store": now, "file": file if now == number else now, "content": self._looks.version}
             return {**told, **shown, "layers": told_layers}
 
         version, to_undo, to_redo = self._keeper.steps()
@@ -283,9 +287,9 @@ class Calls:
             return {"question": question}
         try:
             if words == ["save"]:
-                return self._save(editor)
+                return self._save(editor, _store(body))
             if words[0] in QUESTIONS:
-                answer = self._asked(editor, line, grid)
+                answer = self._asked(editor, body, line, grid)
                 return _answered(_in_units(units, line, answer) if units else answer)
             return self._edit(Asked(editor, page, line, seen, grid.mark, _store(body)))
         except Refused as refused:
@@ -306,12 +310,18 @@ class Calls:
             raise Outdated(str(GridChanged(self._title)))
         return grid
 
-    def _asked(self, editor: int, line: str, grid: MapGrid) -> Answer:
-        """The answer of a question that was made for a grid. `Outdated` where the store has another one meanwhile."""
+    def _check_over(self, body: Body, mirror: Mirror) -> None:
+        """`Outdated` where who asks has another store before them than the one that would answer."""
+        if _store(body) not in (None, mirror.number):
+            raise Outdated(str(StoreChanged(self._title)))
+
+    def _asked(self, editor: int, body: Body, line: str, grid: MapGrid) -> Answer:
+        """The answer of a question that was made for a grid. `Outdated` where the store has another one meanwhile, or is another store."""
 
         def question(store: Store) -> Answer:
             if self._questions.grid.mark != grid.mark:
                 raise Outdated(str(GridChanged(self._title)))
+            self._check_over(body, self._questions)
             return store.run(line)
 
         return self._questions.ask(editor, question)
@@ -369,14 +379,14 @@ class Calls:
         if _is_in_units(body):
             raise BadCall("a batch counts in steps: only line and feature take units of the map")
         batch = batch_of(editor, _page(body), body.get("lines"), body.get("seen"))
-        lines, grid = batch.lines, self._grid_for(body).mark
+        lines, grid, over = batch.lines, self._grid_for(body).mark, _store(body)
         if body.get("corners") and any(words_of_line(line)[0] == "vertex" for line in lines):
             # What goes in counts them anew, and what it takes the place of would be lost.
             raise BadCall("a batch with corners has no lines that edit single vertices: replace the feature in their place")
         try:
             if body.get("corners"):
-                return self._fitting(batch, _corners(body["corners"]), _number(body, "shown", 0, 2**53), grid)
-            return self._changing(editor, lambda: self._keeper.carry_out_all(batch, grid=grid))._asdict()
+                return self._fitting(batch, _corners(body["corners"]), _number(body, "shown", 0, 2**53), grid, over)
+            return self._changing(editor, lambda: self._keeper.carry_out_all(batch, grid=grid, over=over))._asdict()
         except LineRefused as refused:
             # One beside was sent by nobody: the last line is named, and the words are those of what is beside.
             line = lines[refused.at] if refused.at < len(lines) else refused.refused.line
@@ -387,14 +397,14 @@ class Calls:
             # Of a group no line is at fault: a rule is looked at behind the last one.
             return {"refused": self._refusal(refused, text_of(lines))}
 
-    def _fitting(self, batch: Batch, corners: Sequence[Corner], shown: int, grid: str) -> Body:
+    def _fitting(self, batch: Batch, corners: Sequence[Corner], shown: int, grid: str, over: int | None) -> Body:
         """Carries out lines with corners put into the borders beside, as these are just then; ``shown`` is what the asker has seen of them."""
         editor, page, lines, seen = batch
         for _ in range(_DRAWINGS_MAX):
             found, version = self._questions.ask(editor, lambda store: (fitted(store, lines, corners), self._questions.version))
             whole = batch_of(editor, page, found.lines, [*seen, *[shown] * len(found.beside)])
             try:
-                done = self._changing(editor, lambda: self._keeper.carry_out_all(whole, version, grid))
+                done = self._changing(editor, lambda: self._keeper.carry_out_all(whole, version, grid, over))
             except Overtaken:
                 continue
             own = [_edited(*each) for each, fit in zip(zip(lines, done.answers), found.lines) if fit != each[0]]
@@ -420,12 +430,12 @@ class Calls:
         """The features of a layer, or those that meet a box."""
         layer = spelling.name(_text(body, "layer"))
         box = None if body.get("box") is None else _box(body)
-        return self._looked(editor, layer, lambda store: {"ids": identifiers_of(store, layer, box)})
+        return self._looked(editor, body, layer, lambda store: {"ids": identifiers_of(store, layer, box)})
 
     def _rows(self, editor: int, body: Body) -> Body:
         """Features with their geometries and values, of those that are there."""
         layer, features = spelling.name(_text(body, "layer")), ids_of(body.get("ids"))
-        return self._looked(editor, layer, lambda store: {"rows": rows_of(store, layer, features)})
+        return self._looked(editor, body, layer, lambda store: {"rows": rows_of(store, layer, features)})
 
     def _table(self, editor: int, body: Body) -> Body:
         """A page of a layer's table; or how much of the table is read, so that the page asks again."""
@@ -442,7 +452,7 @@ class Calls:
     def _labels(self, editor: int, body: Body) -> Body:
         """The values of features in a column, of those that have one."""
         layer, column, features = spelling.name(_text(body, "layer")), _text(body, "column"), ids_of(body.get("ids"))
-        return self._looked(editor, layer, lambda store: {"labels": labels_of(store, layer, column, features)})
+        return self._looked(editor, body, layer, lambda store: {"labels": labels_of(store, layer, column, features)})
 
     def _history_of(self, editor: int, body: Body) -> Body:
         """What was done, the newest first; or what was done before something of it."""
@@ -456,7 +466,7 @@ class Calls:
     def _style(self, editor: int, body: Body) -> Body:
         """Has a layer look otherwise, for all: a whole style, some fields of it, or as it does by itself where none is given."""
         layer = spelling.name(_text(body, "layer"))
-        told = self._looked(editor, layer, lambda store: {"columns": len(store.columns(layer))})
+        told = self._looked(editor, body, layer, lambda store: {"columns": len(store.columns(layer))})
         if "refused" in told:
             return told
         with _kept_beside(self.styles):
@@ -476,6 +486,8 @@ class Calls:
         """How a layer looks in QGIS, who has saved that, and its mark; and what is wrong with the file that says it, if anything is."""
         with _kept_beside(self.qgis_styles):
             layer, kind = spelling.name(_text(body, "layer")), kind_of(body.get("kind", ""))
+        if _store(body) is not None:
+            self._looks.ask(editor, lambda store: self._check_over(body, self._looks))
         found = self.qgis_styles.style(layer, kind)
         told: Body = {"qml": None, "by": None, "mark": None}
         if found is not None:
@@ -488,7 +500,7 @@ class Calls:
         for name, given in (("qml", qml), ("seen", seen)):
             if given is not None and not isinstance(given, str):
                 raise BadCall(f"{name} has to be a text or null")
-        told = self._looked(editor, layer, lambda store: {"columns": len(store.columns(layer))})
+        told = self._looked(editor, body, layer, lambda store: {"columns": len(store.columns(layer))})
         if "refused" in told:
             return told
         style = None if qml is None else QgisStyle(qml, self._editors.name_of(editor))
@@ -503,11 +515,19 @@ class Calls:
         self.events.tell({"qgis_styled": layer, "kind": kind, "mark": mark, "editor": self._editors.name_of(editor)})
         return {"mark": mark, **_given_way(gave_way)}
 
-    def _looked(self, editor: int, layer: str, question: Callable[[Store], Body]) -> Body:
-        """What a question about a layer gives, with the version that it is of; or that there is no such layer."""
+    def _looked(self, editor: int, body: Body, layer: str, question: Callable[[Store], Body]) -> Body:
+        """What a question about a layer gives, with the version that it is of; or that there is no such layer.
+
+        `Outdated` where who asks has another store before them.
+        """
         looks = self._looks
+
+        def asked(store: Store) -> Body:
+            self._check_over(body, looks)
+            return {**question(store), "version": looks.version}
+
         try:
-            return looks.ask(editor, lambda store: {**question(store), "version": looks.version})
+            return looks.ask(editor, asked)
         except Refused as refused:
             return {"refused": self._refusal(refused, f"show {layer}")}
 
@@ -524,7 +544,7 @@ class Calls:
             return f"{who} {did} {feature} meanwhile: look again."
         return f"{who} changed {feature} meanwhile, by `{self._shown_line(change.line)}`: look again."
 
-    def _save(self, editor: int) -> Body:
+    def _save(self, editor: int, over: int | None) -> Body:
         name = self._editors.name_of(editor)
 
         def told() -> None:
@@ -532,10 +552,10 @@ class Calls:
             with contextlib.suppress(OSError):
                 self._keeper.with_layer_changes(self._follow_layers)
             self._history.take(name, "save", "save")
-            self.events.tell({"saved": name, "undo": None, "redo": None})
+            self.events.tell({"saved": name, "file": self._keeper.last_file, "undo": None, "redo": None})
 
         try:
-            self._keeper.save(told)
+            self._keeper.save(told, over)
         except GridChanged as changed:
             raise Outdated(str(changed)) from None
         return {"text": f"{self._title} is saved. The history begins anew."}

@@ -2,6 +2,7 @@
 
 from __future__ import annotations
 
+import hashlib
 import threading
 import time
 import warnings
@@ -15,7 +16,7 @@ from sfstore.kept import OpenFile
 from sfstore.mapgrid import GridChanged, MapGrid
 from sfstore.program import is_edit
 from sfstore.store import Answer, Editor, ProgramEnded, Refused, Store
-from sfstore.web.batches import Batch, Done, LineRefused, NotTakenBack, carry_out, carry_out_group, is_group, moved, take_back
+from sfstore.web.batches import Batch, Done, LineRefused, NotTakenBack, carry_out, carry_out_group, is_group, moved, refusal_of, take_back
 from sfstore.web.batchlog import BatchLog, new_mark
 from sfstore.web.changes import Change, Changes, Target, seen_of
 from sfstore.web.steps import LayerChange, Step, Steps
@@ -29,6 +30,8 @@ _EDIT_SECONDS, _LINE_SECONDS = 60.0, 0.005
 # How many versions each millisecond has room for, as a power of 2: no program carries out so many edits. A page
 # counts exactly up to 2**53, which are the milliseconds of some 139 years from 1970.
 _VERSIONS_OF_A_MILLISECOND = 11
+# So many hexadecimal digits of a sum: a page counts exactly so far.
+_STORE_DIGITS = 13
 _WRITTEN_OVER = "The store's file was written by another program just now: ask again."
 
 
@@ -141,7 +144,7 @@ class Keeper:
         # Above all of an earlier server: what somebody has seen there is none of these, and has to be looked at again.
         self._version = (time.time_ns() // 1_000_000) << _VERSIONS_OF_A_MILLISECOND
         self._file = 0
-        self._store_number = 0
+        self._store_number, self._file_number = 0, 0
         self._head: str | None = None
         self._thread = ThreadPoolExecutor(1, "keeper")
         try:
@@ -166,12 +169,16 @@ class Keeper:
         `LineRefused` where one of them is refused, and `ChangedMeanwhile` and `GridChanged` as for a line. `Overtaken`
         where they were made for one version of the store, and somebody has edited anything since.
         """
-        count = len(batch.lines)
 
         def job(store: Store) -> Done:
             if made_for not in (None, self._version):
                 raise Overtaken
-            return self._limited(store, count, lambda: self._carry_out_all(store, batch, grid, over))
+            self._check_grid(grid, over)
+            for line, seen in zip(batch.lines, batch.seen):
+                self._check_seen(Asked(batch.editor, batch.page, line, seen))
+            if len(batch.lines) > 1 and not is_group(batch.lines):
+                self._try(store, batch)
+            return self._limited(store, len(batch.lines), lambda: self._carry_out_all(store, batch))
 
         return self._do(job)
 
@@ -199,16 +206,25 @@ class Keeper:
 
     @property
     def last_store(self) -> int:
-        """A number that is another one whenever another store has taken the place of the one that was open. Any thread may ask it."""
+        """A number that is another one whenever another store has taken the place of the one that was open. Any thread may ask it.
+
+        It is that of the file from which the first edit here goes on: a later server of it has the same one, up to a save.
+        """
         return self._store_number
 
-    def save(self, told: Callable[[], object] = lambda: None) -> None:
+    @property
+    def last_file(self) -> int:
+        """The number that the store will have where another server opens it from now on. Any thread may ask it."""
+        return self._file_number
+
+    def save(self, told: Callable[[], object] = lambda: None, over: int | None = None) -> None:
         """Saves the store; the history begins anew. `GridChanged` where its grid is another one than when it was opened.
 
-        ``told`` is called behind it in the keeper's thread: no edit comes between.
+        ``told`` is called behind it in the keeper's thread: no edit comes between. ``over`` is the number of the store that is meant.
         """
 
         def job(store: Store) -> None:
+            self._check_grid(None, over)
             self._save(store)
             told()
 
@@ -344,8 +360,8 @@ class Keeper:
     def _note_head(self) -> None:
         """Notes which file the edits go on from. One that was not seen when the store was left is of another store."""
         head = self._log.head()
-        if self._head not in (None, head):
-            self._store_number += 1
+        if self._head != head:
+            self._store_number = self._file_number = _number_of(head)
         self._head = head
 
     def _found_steps(self, store: Store) -> Steps:
@@ -384,11 +400,8 @@ class Keeper:
             raise refused[0]
         return cast(Answer, answers[0])
 
-    def _carry_out_all(self, store: Store, batch: Batch, grid: str | None, over: int | None) -> Done:
-        self._check_grid(grid, over)
+    def _carry_out_all(self, store: Store, batch: Batch) -> Done:
         editor, page = batch.editor, batch.page
-        for line, seen in zip(batch.lines, batch.seen):
-            self._check_seen(Asked(editor, page, line, seen))
         self._log.give_up()
         if is_group(batch.lines):
             group = carry_out_group(_speaker(store, editor), batch.lines)
@@ -401,8 +414,6 @@ class Keeper:
                 self._log.begin(store.unsaved, editor, lines)
 
         mark = new_mark() if len(batch.lines) > 1 else ""
-        if len(batch.lines) > 1 and (self._steps.to_redo is not None or not store.layers()):
-            self._try(store, editor, batch.lines, mark)
         outcome = carry_out(_speaker(store, editor), batch.lines, begin, mark)
         number = self._version + 1
         asked = (Asked(editor, page, line, None) for line, _ in outcome.accepted)
@@ -416,21 +427,21 @@ class Keeper:
         self._log.end()
         return Done(outcome.answers, self._version)
 
-    def _try(self, store: Store, editor: int, lines: Sequence[str], mark: str) -> None:
+    def _try(self, store: Store, batch: Batch) -> None:
         """`LineRefused` where a line of a batch would be refused, of which a part would be carried out before, and taken back.
 
-        Nothing could be redone then that could be before, and a store without layers has no step that changes nothing: a part
-        of the batch could be redone. So it is tried in another program with the same content, by the same editor and with the
-        same mark, which make a line longer.
+        Something else could be redone then than before. So it is tried in another program with the same content, by the same
+        editor and with a mark, which make a line longer.
         """
+        editor, lines = batch.editor, batch.lines
         made = store.unsaved_lines
         trial = loaded(self._program, Snapshot(store._open_file(), made, self._version, self._file, self._grid, self._store_number))
         try:
-            outcome = self._limited(trial, len(lines), lambda: carry_out(_speaker(trial, editor), lines, mark=mark))
+            refused = self._limited(trial, len(lines), lambda: refusal_of(_speaker(trial, editor), lines, new_mark()))
         finally:
             trial.close(save=False)
-        if outcome.refused is not None:
-            raise outcome.refused
+        if refused is not None:
+            raise refused
 
     def _taken(self, asked: Asked, answer: str, group: int = 0, stays: bool = True) -> Edit:
         """Notes a line that was accepted. One that does not stay is undone by another of the same batch."""
@@ -476,7 +487,6 @@ class Keeper:
                 raise ChangedMeanwhile(target, change)
 
     def _save(self, store: Store) -> None:
-        self._check_grid()
         try:
             store.save()
         finally:
@@ -487,6 +497,7 @@ class Keeper:
                 self._version += 1
                 self._file += 1
                 self._head = self._log.head()
+                self._file_number = _number_of(self._head)
 
     def _begun(self, store: Store) -> _Begun:
         read = store._reading()
@@ -499,6 +510,11 @@ class Keeper:
         unsaved = store.unsaved
         store.close(save=False)
         return unsaved
+
+
+def _number_of(head: str) -> int:
+    """The number of a store whose edits go on from a file, by the first line of their journal."""
+    return int(hashlib.sha256(head.encode()).hexdigest()[:_STORE_DIGITS], 16)
 
 
 def loaded(program: str, snapshot: Snapshot) -> Store:

@@ -468,6 +468,69 @@ class OtherStore(PageCase):
         self.assertEqual(serving.posted("/line", self.ann.key, **body, store=before)[0], 409)
         self.assertEqual(serving.call("/history", before=None, count=9)["entries"], [])
 
+    def test_a_map_that_can_not_be_had_is_tried_again(self):
+        page = self.opened()
+        away = self.path.with_name("away.sfs")
+        for child in self.programs(self.serving):
+            os.kill(child, signal.SIGKILL)
+        os.rename(self.path, away)
+        self.path.write_bytes(b"no store")
+        self.ann.posted("undo", 0)
+        page.until(lambda: "is tried again in 2 s" in page.text("#status"))
+        self.path.unlink()
+        os.rename(away, self.path)
+        page.until(lambda: "is tried again" not in page.text("#status"))
+        page.until(lambda: page.drawn("parcels") == 200)
+        # Nobody else has it looked at: the page has what is edited then.
+        self.ann.line("delete parcels 200")
+        page.until(lambda: page.drawn("parcels") == 199)
+
+    def test_a_batch_or_a_question_for_another_store_is_refused(self):
+        serving = self.serving = self.serve()
+        self.ann = serving.log_in("Ann")
+        before = serving.call("/map")["store"]
+        seen = self.ann.version()
+        self.other_store()
+        now = serving.call("/map")["store"]
+        said = "town.sfs is another store than before: look at the map again. Nothing was done."
+        addition = "add parcels POLYGON ((0 900, 9 900, 9 909, 0 900))"
+        corner = [["0", "900", 0, 900]]
+        for path, body in (
+            ("/batch", {"page": "p", "lines": [addition], "seen": [None]}),
+            ("/batch", {"page": "p", "lines": [addition, addition], "seen": [None, None], "corners": corner, "shown": seen}),
+            ("/line", {"page": "p", "line": "save", "seen": 0}),
+            ("/line", {"page": "p", "line": "show parcels", "seen": 0}),
+            ("/ids", {"layer": "parcels"}),
+            ("/rows", {"layer": "parcels", "ids": [1]}),
+            ("/map", {}),
+            ("/qml", {"layer": "parcels", "kind": ""}),
+            ("/save-qml", {"layer": "parcels", "kind": "", "qml": None, "seen": None}),
+        ):
+            with self.subTest(path=path, body=body):
+                status, answer = serving.posted(path, self.ann.key, **body, store=before)
+                self.assertEqual((status, answer.get("error")), (409, said))
+                self.assertEqual(serving.call("/map")["layers"], serving.posted("/map", self.ann.key, store=now)[1]["layers"])
+        self.assertEqual(serving.call("/history", before=None, count=9)["entries"], [])
+        self.assertEqual(len(self.ann.line("show parcels")["rows"]), 2)
+        status, answer = serving.posted("/batch", self.ann.key, page="p", lines=[addition], seen=[None], store=now)
+        self.assertEqual((status, answer["answers"]), (200, ["ok 3"]))
+
+    def test_a_store_has_the_number_that_it_had_for_a_server_before(self):
+        serving = self.serve()
+        ann, told = serving.log_in("Ann"), serving.call("/map")
+        self.assertEqual(told["file"], told["store"])
+        ann.line("delete parcels 1")
+        for is_saved in (False, True):
+            if is_saved:
+                ann.line("save")
+            before, told = told, serving.call("/map")
+            self.assertEqual(told["store"], before["file"])
+            self.assertEqual(told["file"] == told["store"], not is_saved)
+            serving.end(signal.SIGKILL)
+            serving = self.serve()
+            ann = serving.log_in("Ann")
+        self.assertEqual(serving.call("/map")["store"], told["file"])
+
     def test_a_store_that_is_opened_again_or_saved_is_the_same(self):
         page = self.opened()
         page.pick("#target", "streets")

@@ -36,15 +36,18 @@ MADE = (
 ).encode()
 
 # A program that does as the real one, but has no memory for more undos than a file says, while that is there.
+# Only the program that keeps the journal has no memory, for an addition of a third column and for further undos: another one
+# carries all out.
 NO_MEMORY = """\
 #!{python}
 import os, subprocess, sys
 child = subprocess.Popen([{program!r}, *sys.argv[1:]], stdin=subprocess.PIPE, stdout=subprocess.PIPE, close_fds=False)
-undone = 0
+undone, keeps = 0, any(word.startswith("--store") for word in sys.argv)
 for line in sys.stdin.buffer:
-    if os.path.exists({flag!r}) and line.split()[1:2] == [b"undo"]:
-        undone += 1
-        if undone > int(open({flag!r}).read()):
+    is_undo = line.split()[1:2] == [b"undo"]
+    if keeps and os.path.exists({flag!r}) and (is_undo or b" three " in line):
+        undone += is_undo
+        if not is_undo or undone > int(open({flag!r}).read()):
             sys.stdout.buffer.write(b"refused 1 Memory\\n")
             sys.stdout.buffer.flush()
             continue
@@ -184,6 +187,28 @@ class Whole(BatchCase):
         self.ann.answer("undo")
         self.assertEqual(self.done(self.ben, "column add p more int", "set p 1 more 5"), ["ok", "ok"])
         self.assertIsNone(self.serving.call("/map")["redo"])
+
+    def test_a_batch_that_is_refused_leaves_nothing_to_redo_and_no_trace(self):
+        self.ann.answer("set p 1 number 7")
+        before, told, done = self.shown(), self.serving.call("/map"), self.entries()
+        for lines in (["column add p more int", "delete p 1", "set p 2 nix 1"], ["layer add q any", "delete p 1", "layer add q any"]):
+            self.assertEqual(self.refused(self.ben, *lines)[1], 2)
+            self.assertEqual(self.shown(), before)
+            now = self.serving.call("/map")
+            self.assertEqual((now["undo"], now["redo"], now["version"]), (told["undo"], None, told["version"]))
+            self.assertEqual(self.entries(), done)
+            for person in (self.ann, self.ben):
+                self.assertEqual(person.refused("redo")["name"], "NothingToRedo")
+        # The journal has nothing of it either.
+        self.serving.end(signal.SIGKILL)
+        self.serving = self.serve()
+        self.ann = self.serving.log_in("Ann")
+        self.assertEqual(self.ann.refused("redo")["name"], "NothingToRedo")
+        self.assertEqual(self.ann.answer("undo"), "ok")
+        self.assertEqual(self.ann.refused("undo")["name"], "NothingToUndo")
+
+    def entries(self):
+        return self.serving.call("/history", before=None, count=9)["entries"]
 
     def test_of_a_store_without_layers_nothing_of_what_was_refused_can_be_redone(self):
         for name in ("p", "w"):
@@ -481,10 +506,10 @@ class Told(BatchCase):
     def changed_of(self, told):
         return [tuple(each.values()) for each in told["changed"]]
 
-    def test_of_a_batch_that_was_taken_back_the_version_is_heard_and_no_change(self):
+    def test_of_a_batch_that_is_refused_nothing_is_heard(self):
         self.refused(self.ann, "column add p more int", "delete p 1", "set p 2 nix 1")
-        told = self.page.next()
-        self.assertEqual((told["changed"], told["version"]), ([], self.ann.version()))
+        self.ann.answer("delete p 3")
+        self.assertEqual(self.page.next()["line"], "delete p 3")
 
     def test_changes_of_one_feature_are_told_as_one(self):
         changes = [Changed("added", "p", 1), Changed("changed", "p", 1), Changed("changed", "p", 2), Changed("deleted", "p", 2)]
@@ -1054,7 +1079,7 @@ class Cut(TestCase):
         before = columns()
         flag.write_text("1")
         with self.assertRaisesRegex(Unavailable, "could not be taken back .*: the next opening of the store does it"):
-            keeper.carry_out_all(Batch(1, "page", ["column add p one int", "column add p two int", "column drop p nix"], [None] * 3))
+            keeper.carry_out_all(Batch(1, "page", ["column add p one int", "column add p two int", "column add p three int"], [None] * 3))
         flag.unlink()
         self.assertEqual(columns(), before)
         self.assertIsNone(keeper.steps()[1])
@@ -1071,7 +1096,7 @@ class Cut(TestCase):
         keeper = self.keeper()
         with self.assertRaises(LineRefused):
             keeper.carry_out_all(Batch(1, "page", ["column add p more int", "column drop p nix"], [None, None]))
-        self.assertEqual((self.folder / "town.sfs.batches").read_bytes(), b"")
+        self.assertFalse((self.folder / "town.sfs.batches").exists())
         self.assertEqual(len(keeper.ask(lambda store: store.columns("p"))), 2)
 
     def plain(self, lines):

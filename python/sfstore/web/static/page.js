@@ -38,6 +38,9 @@ const PAN_PIXELS = 60;
 const SMALL_PIXELS = 12;
 // How long a message stands before the count takes its place.
 const READ_MILLISECONDS = 4_000;
+// How long after a failed look at the map it is tried again at first, and at most: each time it takes twice as long.
+const AGAIN_MILLISECONDS = 1_000;
+const AGAIN_MILLISECONDS_MAX = 30_000;
 const LOST = "The connection is lost. Where sfstore-web was started again, open its new link.";
 const OTHER = "Another store, or another grid of it, is behind this page now.";
 const GIVEN_UP = `${OTHER} What was begun before is given up: look again.`;
@@ -54,6 +57,9 @@ class App {
     this.shown = {};
     this.content = 0;
     this.isShown = false;
+    // How long the page waits where it can't look at the map, and for what.
+    this.pause = AGAIN_MILLISECONDS;
+    this.waiting = 0;
     this.login = new Login();
     this.steps = { undo: null, redo: null };
     // When something was said that a person has to read.
@@ -281,8 +287,24 @@ class App {
     this.labels.follow();
   }
 
-  /** Looks at everything, at first at the whole map. */
+  /** Looks at everything anew. Where it can't be had it is tried again by itself, later each time. */
   async #lookAnew() {
+    const looking = (this.looking = {});
+    clearTimeout(this.waiting);
+    try {
+      await this.#lookAtAll();
+      this.pause = AGAIN_MILLISECONDS;
+    } catch (fault) {
+      // What was begun later tries it again.
+      if (looking !== this.looking) return;
+      this.tell(`The map is not shown as it is now, and is tried again in ${this.pause / 1_000} s. ${fault.message}`);
+      this.waiting = setTimeout(() => this.#lookAnew(), this.pause);
+      this.pause = Math.min(2 * this.pause, AGAIN_MILLISECONDS_MAX);
+    }
+  }
+
+  /** Looks at everything, at first at the whole map. */
+  async #lookAtAll() {
     const before = this.shown;
     const { version, extent, grid_fault: fault } = await this.#readMap(!this.isShown);
     const isMoved = this.isShown && this.shown !== before;
