@@ -1,4 +1,5 @@
 pub use Rattle.sf_console.specs.History
+pub use Rattle.sf_console.specs.Requests
 pub mod Desks
 pub mod Waiting
 pub mod Inputs

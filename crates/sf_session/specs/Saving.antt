@@ -3,7 +3,17 @@ use Rattle.std.specs.Prelude.{◌≡◌, ◌⊎◌, ℕ, List, [], ◌∷◌, Op
 use Rattle.sf_journal.specs.Crc.{crc}
 use Rattle.sf_journal.specs.Records.{head_with}
 use Rattle.sf_folder.specs.Calls.{Call, Does, Knows}
+use Rattle.sf_saving.specs.Canonical.{canonical_ruled}
+use Rattle.sf_keeping.specs.History.{Machine, fresh_under, ruled_now}
 use Rattle.sf_folder.specs.Saves.{Saves, TriesToSave}
+
+-- the bytes of the file of what a machine has
+abbrev pub file_of : Machine → List ℕ
+file_of machine = canonical_ruled (ruled_now machine)
+
+-- the history ended: what it has stays, with neither past nor future
+abbrev pub IsEnded : Machine → Machine → Type 0
+IsEnded old new = new ≡ fresh_under (ruled_now old)
 
 -- These bytes were saved, and are known to be those of the store's file. The sum is that behind the head of its journal, which has no
 -- record yet.

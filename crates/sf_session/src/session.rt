@@ -1,8 +1,6 @@
 //! The whole session: the lines of its input, the saves between them, and the one at its end.
 ghost use Rattle.std.specs.Prelude.{◌≡◌, [], IfErr, IfOk, OnErr, OnOk};
-ghost use Rattle.sf_saving.specs.Canonical.{canonical_ruled};
-ghost use Rattle.sf_keeping.specs.History.{fresh_under, ruled_now};
-ghost use Rattle.sf_session.specs.Saving.{HasSaved, IsSumBehind, IsUnsaved};
+ghost use Rattle.sf_session.specs.Saving.{HasSaved, IsEnded, IsSumBehind, IsUnsaved, file_of};
 ghost use Rattle.sf_session.specs.Answering.{IsUnkept, SavesAnswered};
 ghost use Rattle.sf_session.specs.Sessions.{IsServed, IsSession, ServesAll};
 ghost use Rattle.sf_session.specs.Faults.{BreaksOff, EndsBy, FailsServing, IsSaveFault};
@@ -128,7 +126,7 @@ fn save_and_answer<H: Home>(
     home: &mut H,
 ) -> Result<Sum, SessionFault>
     ensures ok { IfOk result (λ sum. SavesAnswered editor.old (H.calls home.old) (H.calls home.new) sum) }
-    ensures ended { OnOk result (editor.new ≡ fresh_under (ruled_now editor.old)) }
+    ensures ended { OnOk result (IsEnded editor.old editor.new) }
     ensures fault { IfErr result (λ fault. IsUnkept fault editor.old (H.calls home.old) (H.calls home.new)) }
 {
     let sum = save_store(alloc, home, editor)?;
@@ -141,7 +139,7 @@ fn save_and_answer<H: Home>(
 
 /// Leaves the store and its rules to an editor without a past.
 fn end_history(alloc: Global, editor: &mut Editor)
-    ensures { editor.new ≡ fresh_under (ruled_now editor.old) }
+    ensures { IsEnded editor.old editor.new }
 {
     let ended = mem::replace(editor, Editor::new(alloc));
     *editor = Editor::from_ruled(alloc, ended.into_ruled());
@@ -167,8 +165,8 @@ impl<'a> Source for Saved<'a> {
 /// Saves, and gives the sum behind the head of the new journal. Where another program has changed the store's file, nothing
 /// takes its place, and the journal has all edits.
 fn save_store<H: Home>(alloc: Global, home: &mut H, editor: &Editor) -> Result<Sum, SessionFault>
-    ensures ok { IfOk result (λ sum. HasSaved (canonical_ruled (ruled_now editor.now)) (H.calls home.old) (H.calls home.new) sum) }
-    ensures unsaved { OnErr result (IsUnsaved (canonical_ruled (ruled_now editor.now)) (H.calls home.old) (H.calls home.new)) }
+    ensures ok { IfOk result (λ sum. HasSaved (file_of editor.now) (H.calls home.old) (H.calls home.new) sum) }
+    ensures unsaved { OnErr result (IsUnsaved (file_of editor.now) (H.calls home.old) (H.calls home.new)) }
     ensures fault { IfErr result IsSaveFault }
 {
     check_known(home)?;
@@ -190,8 +188,8 @@ fn check_known<H: Home>(home: &mut H) -> Result<(), SessionFault>
 
 /// Saves in the place of the file that is known.
 fn save_known<H: Home>(alloc: Global, home: &mut H, editor: &Editor) -> Result<Sum, SessionFault>
-    ensures ok { IfOk result (λ sum. HasSaved (canonical_ruled (ruled_now editor.now)) (H.calls home.old) (H.calls home.new) sum) }
-    ensures unsaved { OnErr result (IsUnsaved (canonical_ruled (ruled_now editor.now)) (H.calls home.old) (H.calls home.new)) }
+    ensures ok { IfOk result (λ sum. HasSaved (file_of editor.now) (H.calls home.old) (H.calls home.new) sum) }
+    ensures unsaved { OnErr result (IsUnsaved (file_of editor.now) (H.calls home.old) (H.calls home.new)) }
     ensures fault { IfErr result IsSaveFault }
 {
     match save(home, alloc, &Saved(editor.ruled())) {
