@@ -63,7 +63,10 @@ class Large:
         return list(range(1, 1_000))
 
     def run_all(self, lines):
-        count = len(list(lines))
+        lines = list(lines)
+        if lines and lines[0].startswith("query "):
+            return [[str(feature) for feature in range(1, 1_000)]] * len(lines)
+        count = len(lines)
         self.asked += count
         self.most = max(self.most, count * self.DIGITS)
         line = b"\x01" + (2).to_bytes(4, "little") + (1).to_bytes(4, "little") + bytes(16)
