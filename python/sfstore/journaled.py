@@ -56,7 +56,7 @@ class Journaled:
     """
 
     def __init__(self, program: str, path: PathName) -> None:
-        self._name = program
+        self.name = program
         self._kept = Kept(os.fsdecode(path))
         # Whether the program may have done something that is not noted here.
         self._in_doubt = False
@@ -127,7 +127,7 @@ class Journaled:
 
     def copy(self, path: str) -> None:
         self._check_open()
-        self._kept.copy(path, self._name)
+        self._kept.copy(path, self.name)
 
     def close(self) -> None:
         """Saves the store, and ends the program. What can't be saved stays in the journal."""
@@ -169,7 +169,7 @@ class Journaled:
         """Has the program load the file, and do the edits of its journal again."""
         self._said = _said_file()
         try:
-            self._program = started([self._name, f"--store={self._kept.path}", "--keep"], self._said)
+            self._program = started([self.name, f"--store={self._kept.path}", "--keep"], self._said)
         except BaseException:
             _pass_on(self._said)
             raise
@@ -209,7 +209,7 @@ class Journaled:
         self._kept.check()
         old = self._kept.digest
         try:
-            awaited = sidecar.follow(self._kept.path, old, lambda: self._kept.next_digest(self._name))
+            awaited = sidecar.follow(self._kept.path, old, lambda: self._kept.next_digest(self.name))
         except OSError as error:
             raise self._kept.unsavable(self._kept.path, f"its side-car: {error.strerror}") from error
         self._in_doubt = True

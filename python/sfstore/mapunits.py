@@ -255,6 +255,9 @@ def grid_decimal(word: str) -> Decimal:
         number = Decimal(word)
     except InvalidOperation:
         raise ValueError(f"{word[:_SHOWN]!r} is no decimal number") from None
+    # Python takes other digits too, and parts them.
+    if not word.isascii() or "_" in word:
+        raise ValueError(f"{word[:_SHOWN]!r} is no decimal number")
     if not number.is_finite() or abs(number.adjusted()) > 300 or len(word) > _LETTERS_MAX:
         raise ValueError(f"{word[:_SHOWN]!r} is no decimal number that a grid can have")
     return _shortest(number)

@@ -45,6 +45,8 @@ _GREETING = b"?\n"
 class Link(Protocol):
     """What editors need of the program that holds their store."""
 
+    name: str
+    """What the program is called by."""
     has_group: bool
     """Whether a group is open, whose members are not sent yet."""
 
@@ -107,6 +109,7 @@ class Program:
         self._owner = os.getpid()
         self._closed = False
         self.has_group = False
+        self.name = words[0]
         self._last_line = ""
         # What is to be sent, the lines that were read, and what was read of the next one.
         self._unsent = memoryview(b"")

@@ -11,7 +11,7 @@ import itertools
 import json
 import os
 import re
-from collections.abc import Callable, Iterable
+from collections.abc import Callable, Iterable, Iterator
 from dataclasses import asdict, dataclass, field, replace
 from typing import Any
 
@@ -42,6 +42,8 @@ LEFT_MAX = 100_000
 """How many features of a layer a side-car names at most that were left out, and as many that were taken without some values."""
 
 _FORMAT = "sfstore side-car 1"
+# How many features it names in all: some kilobytes of ranges would be gigabytes of numbers.
+_NAMED_MAX = 20 * LEFT_MAX
 # What a layer has of features that were left out, which is written as ranges: 1-7 9.
 _LEFT = ("left_out", "without")
 _RANGE = re.compile("(-?[0-9]{1,20})(?:-(-?[0-9]{1,20}))?")
@@ -248,8 +250,10 @@ def _not_of(store: str) -> str:
 
 def write(store: str, found: Sidecar, digests: list[str]) -> None:
     """Writes the side-car of a store's file, whole or not at all, for files of these digests."""
-    layers = [_left_told(layer) for layer in found.layers]
-    additions = [_left_told(addition) for addition in found.additions]
+    room = _Room(_NAMED_MAX)
+    layers = [_left_told(layer, room) for layer in found.layers]
+    # The last ones before the others.
+    additions = [_left_told(addition, room) for addition in reversed(found.additions)][::-1]
     content = {"format": _FORMAT, **asdict(found), "layers": layers, "digests": digests, "additions": additions}
     # In ASCII, since half a pair of surrogates has no place in UTF-8.
     data = json.dumps(content, indent=1).encode("ascii") + b"\n"
@@ -302,6 +306,9 @@ def _sidecar(content: dict[str, Any]) -> Sidecar:
         raise ValueError(content["format"])
     x, y, step = map(str, content["grid"])
     crs = content["crs"]
+    told = [*content["layers"], *content.get("additions", [])]
+    if sum(_count(each.get(name, "")) for each in told for name in _LEFT) > _NAMED_MAX:
+        raise ValueError(f"more than {_NAMED_MAX:,} features in all")
     layers = list(map(_layer, content["layers"]))
     known = None if crs is None else Crs(**_texts(crs))
     # Those of former versions name no additions.
@@ -331,10 +338,23 @@ def _left(content: dict[str, Any]) -> tuple[list[int], list[int], list[str]]:
     return left_out, without, left_columns
 
 
-def _left_told(layer: LayerOrigin | Addition) -> dict[str, Any]:
+class _Room:
+    """How many features a side-car may name yet."""
+
+    def __init__(self, left: int) -> None:
+        self._left = left
+
+    def first(self, numbers: list[int]) -> list[int]:
+        """The first ones of some, as many as there is room for."""
+        taken = numbers[: self._left]
+        self._left -= len(taken)
+        return taken
+
+
+def _left_told(layer: LayerOrigin | Addition, room: _Room) -> dict[str, Any]:
     """A layer or an addition as it is written. Former versions take a layer without what was left out."""
     told = asdict(layer)
-    told.update({name: _ranges(told[name]) for name in _LEFT})
+    told.update({name: _ranges(room.first(told[name])) for name in _LEFT})
     return {name: each for name, each in told.items() if each or name not in (*_LEFT, "left_columns")}
 
 
@@ -351,14 +371,24 @@ def _ranges(numbers: list[int]) -> str:
     return " ".join(words)
 
 
-def _numbers(text: Any) -> list[int]:
-    """The numbers of ranges. `ValueError` where they are none, or more than an import names: a side-car may be a stranger's."""
-    found: list[int] = []
+def _ends(text: Any) -> Iterator[tuple[int, int]]:
+    """The ends of ranges. `ValueError` where they are none."""
     for word in text.split():
         parts = _RANGE.fullmatch(word)
         if parts is None:
             raise ValueError(f"{word[:40]!r} is no range")
-        first, last = int(parts[1]), int(parts[2] or parts[1])
+        yield int(parts[1]), int(parts[2] or parts[1])
+
+
+def _count(text: Any) -> int:
+    """How many numbers ranges have."""
+    return sum(max(0, last - first + 1) for first, last in _ends(text))
+
+
+def _numbers(text: Any) -> list[int]:
+    """The numbers of ranges. `ValueError` where they are none, or more than an import names: a side-car may be a stranger's."""
+    found: list[int] = []
+    for first, last in _ends(text):
         if last - first >= LEFT_MAX - len(found):
             raise ValueError(f"more than {LEFT_MAX:,} features")
         found += range(first, last + 1)

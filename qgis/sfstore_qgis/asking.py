@@ -34,6 +34,7 @@ class OutOfReach(NotSent):
 class Asking:
     """A connection to a store's server as the program behind an `Editor` that only asks. One question at a time."""
 
+    name = "sfstore"
     has_group = False
     closed = False
 

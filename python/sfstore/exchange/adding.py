@@ -1,11 +1,13 @@
 """A map that is added to a store which is there: as one step of its history, or not at all.
 
 The features go as groups of edits, which the program carries out whole. A map that is larger than a group goes as
-several, each with whole features. Where one is refused those before it are undone.
+several, each with whole features. They are tried in a copy of the store first: one that is refused leaves no trace in
+the history.
 """
 
 from __future__ import annotations
 
+import contextlib
 from collections.abc import Iterator, Sequence
 from typing import NamedTuple
 
@@ -18,6 +20,7 @@ from sfstore.results import RULE_BROKEN, JournalError, ProgramEnded, Refused, Va
 from sfstore.rules import AnyRule, Rule
 from sfstore.store import Editor, Store
 from sfstore.storefile import FileFeature, FileLayer
+from sfstore.tools.sending import take_back
 
 __all__ = ["Broken", "Outcome", "add"]
 
@@ -68,15 +71,41 @@ def add(store: Store, path: str, program: str, layers: Sequence[FileLayer]) -> O
     `ExchangeError` where it breaks off, so that a part may be there.
     """
     groups = list(_groups(layers))
+    refused = _refusal(store, path, program, groups) if len(groups) > 1 else None
     try:
-        return _sent(store, groups)
-    except Refused as refused:
-        if refused.number != RULE_BROKEN:
-            return Outcome({}, 0, refused, [])
-        return _broken(store, path, program, groups, refused)
+        if refused is None:
+            return _sent(store, groups)
+    except Refused as error:
+        refused = error
     except (KeyboardInterrupt, JournalError, ProgramEnded) as error:
         why = "it was interrupted" if isinstance(error, KeyboardInterrupt) else str(error)
         raise ExchangeError(f"{why}. Steps of it, of {len(groups)}, may be in the journal: `undo` takes each back") from None
+    if refused.number != RULE_BROKEN:
+        return Outcome({}, 0, refused, [])
+    return _broken(store, path, program, groups, refused)
+
+
+def _refusal(store: Store, path: str, program: str, groups: Sequence[Sequence[_Piece]]) -> Refused | None:
+    """Why one of several groups is refused, tried in a copy of the store; none where all are carried out there."""
+    with _copied(store, path, program) as scratch:
+        try:
+            _sent(scratch, groups)
+        except Refused as refused:
+            return refused
+    return None
+
+
+@contextlib.contextmanager
+def _copied(store: Store, path: str, program: str) -> Iterator[Store]:
+    """A copy of a store, which is not saved."""
+    with room_beside(path) as room:
+        copy = f"{room}/copy"
+        store.copy(copy)
+        scratch = Store(program, load=copy, warn_far_off=False)
+        try:
+            yield scratch
+        finally:
+            scratch.close(save=False)
 
 
 def _groups(layers: Sequence[FileLayer]) -> Iterator[list[_Piece]]:
@@ -105,8 +134,7 @@ def _sent(store: Editor, groups: Sequence[Sequence[_Piece]]) -> Outcome:
                 identifiers.setdefault(piece.layer.name, []).append(identifier)
             sent += 1
     except Refused:
-        for _ in range(sent):
-            store.undo()
+        take_back(store, sent)
         raise
     return Outcome(identifiers, sent, None, [])
 
@@ -124,19 +152,16 @@ def _carried_out(store: Editor, pieces: Sequence[_Piece]) -> list[int]:
 
 def _broken(store: Store, path: str, program: str, groups: Sequence[Sequence[_Piece]], refused: Refused) -> Outcome:
     """What a map would break that a rule has kept out, searched in a copy of the store without its rules."""
-    with room_beside(path) as room:
-        copy = f"{room}/copy"
-        store.copy(copy)
-        with Store(program, load=copy) as scratch:
-            rules = scratch.rules()
-            for rule in rules:
-                scratch.drop_rule(rule.name)
-            try:
-                added = _sent(scratch, groups).identifiers
-            except Refused:
-                # Memory ran out, which the breaks need too.
-                return Outcome({}, 0, refused, [])
-            broken = [each for rule in rules for each in _broken_by(scratch, rule, added)]
+    with _copied(store, path, program) as scratch:
+        rules = scratch.rules()
+        for rule in rules:
+            scratch.drop_rule(rule.name)
+        try:
+            added = _sent(scratch, groups).identifiers
+        except Refused:
+            # Memory ran out, which the breaks need too.
+            return Outcome({}, 0, refused, [])
+        broken = [each for rule in rules for each in _broken_by(scratch, rule, added)]
     return Outcome(added, 0, refused, broken)
 
 

@@ -181,10 +181,13 @@ def _value_of(text: str, kind: str) -> Value:
 # ---- written
 
 
-def writable(demanded: Demanded, sort: Sort) -> bool:
-    """Whether a constraint of a GeoPackage says what is demanded, of a column of this type."""
-    if demanded.demand in ("unique", "required"):
+def writable(demanded: Demanded, sort: Sort, held: Iterable[Value]) -> bool:
+    """Whether a constraint of a GeoPackage says what is demanded, of a column of this type that has these values."""
+    if demanded.demand == "required":
         return True
+    if demanded.demand == "unique":
+        # Several values would be one real number.
+        return sort.type != REAL or all(map(_is_double, held))
     if sort.subtype != "None":
         return False
     if demanded.demand == "range":

@@ -125,7 +125,8 @@ def _constrained(part: Part, rules: list[AnyRule], say: Callable[[str], object])
             demanded = demanded_by(rule)
             # A column has one list or one range.
             place = "domain" if demanded.demand in ("one-of", "range") else demanded.demand
-            if writable(demanded, part.sorts[column.number]) and found.get(place, demanded) == demanded:
+            held = (feature.values[column.number] for feature in part.layer.features if column.number in feature.values)
+            if writable(demanded, part.sorts[column.number], held) and found.get(place, demanded) == demanded:
                 found[place] = demanded
             else:
                 say(f"no constraint says the rule {ogr.printable(rule.line)}")

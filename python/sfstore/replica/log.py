@@ -41,10 +41,12 @@ _PLACE_AT, _PLACES_MAX = 80, 1 << 48
 _VERSION, _VARIANT = 8 << 76, 2 << 62
 _RANDOM = ((1 << 12) - 1) << 64 | ((1 << 62) - 1)
 
-# Nobody can sleep between the look and the lines: both are one statement.
-_APPEND = """
+# The log looks once more when it has the lock, and refuses then. One that an earlier version made does not.
+_FIRST = "SELECT coalesce((SELECT min(at) FROM sfstore.log), (SELECT at + 1 FROM sfstore.head)) AS first"
+_DROPPED = "SF106"
+_APPEND = f"""
     SELECT first, CASE WHEN coalesce(%s::bigint, first) >= first - 1 THEN sfstore.append(%s::uuid[], %s) END
-    FROM (SELECT coalesce((SELECT min(at) FROM sfstore.log), (SELECT at + 1 FROM sfstore.head)) AS first) AS log
+    FROM ({_FIRST}) AS log
 """
 
 
@@ -413,7 +415,12 @@ class Writing(_Servers):
         """
         waiting = _Waiting(self._tell)
         since = min((place for place in map(tried_since, keys) if place is not None), default=None)
-        [(first, places)] = self._patiently(_APPEND, (since, list(keys), list(lines)), until, waiting)
+        try:
+            [(first, places)] = self._patiently(_APPEND, (since, list(keys), list(lines)), until, waiting)
+        except LogRefused as refused:
+            if refused.code != _DROPPED:
+                raise
+            [(first,)], places = self._ask(_FIRST, until=until), None
         if places is None:
             raise Dropped(first, waiting.tries == 1)
         return list(places)

@@ -77,6 +77,17 @@ CREATE TABLE sfstore.sums (
   PRIMARY KEY (at, replica)
 );
 
+-- The first place that was not dropped.
+CREATE FUNCTION sfstore.first() RETURNS bigint LANGUAGE sql VOLATILE SET search_path = pg_catalog, pg_temp AS $$
+  SELECT coalesce((SELECT min(at) FROM sfstore.log), (SELECT at + 1 FROM sfstore.head))
+$$;
+
+-- The place behind which the line of a key is searched; none of a key that does not say it.
+CREATE FUNCTION sfstore.tried_since(key uuid) RETURNS bigint LANGUAGE sql IMMUTABLE SET search_path = pg_catalog, pg_temp AS $$
+  SELECT CASE WHEN substr(hex, 13, 1) = '8' THEN ('x' || left(hex, 12))::bit(48)::bigint END
+  FROM (SELECT replace(key::text, '-', '') AS hex) AS given
+$$;
+
 -- Puts lines down as one, and gives the place of each. Those that were tried before are looked for where that is said;
 -- else it is a violation of their keys.
 CREATE FUNCTION sfstore.put_down(keys uuid[], lines text[], number int, is_cut bool, tried_before bool) RETURNS bigint[]
@@ -89,6 +100,10 @@ DECLARE
   chains bytea[] := '{}';
 BEGIN
   SELECT * INTO last FROM sfstore.head FOR UPDATE;
+  -- Behind the lock, in a statement of its own: it sees what was dropped while the lock was waited for.
+  IF NOT is_cut AND (SELECT min(sfstore.tried_since(key)) FROM unnest(keys) AS key) < sfstore.first() - 1 THEN
+    RAISE 'the log was dropped since the lines were tried first' USING ERRCODE = 'SF106';
+  END IF;
   FOR wanted IN SELECT * FROM unnest(keys, lines) WITH ORDINALITY AS given (key, line, nth) ORDER BY nth LOOP
     IF tried_before THEN
       SELECT * INTO old FROM sfstore.log WHERE key = wanted.key;
@@ -200,6 +215,8 @@ BEGIN
   IF (SELECT put_down FROM sfstore.cuts WHERE at = place) > clock_timestamp() - age THEN
     RAISE 'the cut % is not older than %', place, age USING ERRCODE = 'SF104';
   END IF;
+  -- Whoever writes meanwhile finds a key, or that it was dropped.
+  PERFORM FROM sfstore.head FOR UPDATE;
   DELETE FROM sfstore.log WHERE at <= place;
   GET DIAGNOSTICS dropped = ROW_COUNT;
   DELETE FROM sfstore.sums WHERE at < place;

@@ -10,8 +10,9 @@ from sfstore.language import GROUP_MAX
 from sfstore.results import Refused
 from sfstore.tools.notdone import NotDone
 from sfstore.tools.pins import shape_of
+from sfstore.tools.trial import trial_of
 
-__all__ = ["Which", "check_as_seen", "send", "steps_of"]
+__all__ = ["Which", "check_as_seen", "send", "steps_of", "take_back"]
 
 Which = tuple[str, int]
 """A feature, by its layer and its identifier."""
@@ -36,8 +37,18 @@ def steps_of(count: int) -> int:
 def send(store: Editor, changed: Mapping[Which, Shape]) -> int:
     """Gives features other geometries, and gives how many groups that took. `Refused` where one is: then nothing has changed.
 
-    A group that is refused behind others is no reason to leave these: they are undone.
+    Where it takes several they are tried in a copy of the store first, so that one that is refused leaves no trace in the history.
     """
+    count = steps_of(len(changed))
+    if count > 1:
+        with trial_of(store) as scratch:
+            _sent(scratch, changed)
+    _sent(store, changed)
+    return count
+
+
+def _sent(store: Editor, changed: Mapping[Which, Shape]) -> None:
+    """Has groups carried out. `Refused` where one is, and then those before it are taken back."""
     whole = list(changed.items())
     for step in range(steps_of(len(whole))):
         try:
@@ -45,7 +56,14 @@ def send(store: Editor, changed: Mapping[Which, Shape]) -> int:
                 for (layer, feature), shape in whole[step * GROUP_MAX : (step + 1) * GROUP_MAX]:
                     group.replace(layer, feature, write_wkt(shape))
         except Refused:
-            for _ in range(step):
-                store.undo()
+            take_back(store, step)
             raise
-    return steps_of(len(whole))
+
+
+def take_back(store: Editor, steps: int) -> None:
+    """Undoes the last steps, which have edited features, and leaves a step that changes nothing as the one to redo."""
+    for _ in range(steps):
+        store.undo()
+    if steps:
+        store.move_layer(store.layers()[0].name, 0)
+        store.undo()

@@ -226,11 +226,28 @@ def _judged(editor: Editor, lines: Sequence[str]) -> LineRefused | None:
     """The first line whose geometry would be refused: asked before, so that it leaves no trace in the history."""
     questions = {at: question for at, line in enumerate(lines) if (question := _question(line))}
     outcomes = editor.run_all(questions.values())
+    others = _other_layers(lines)
     for at, outcome in zip(questions, outcomes):
-        # The layer may come by a line before, and a geometry that takes another's place needs no identifier.
-        if isinstance(outcome, Refused) and outcome.name not in ("NoLayer", "IdsExhausted"):
+        # The layer may come by a line before, or be another one then, and a geometry that takes another's place needs no identifier.
+        if not isinstance(outcome, Refused) or outcome.name in ("NoLayer", "IdsExhausted"):
+            continue
+        # Lines that say `last` are carried out behind all others.
+        end = len(lines) if LAST.match(lines[at]) else at
+        is_other = others.get(words_of_line(lines[at])[1], end) < end
+        if outcome.name != "WrongKind" or not is_other:
             return LineRefused(at, outcome)
     return None
+
+
+def _other_layers(lines: Sequence[str]) -> dict[str, int]:
+    """The names that are those of other layers than before behind some line, with the place of the first such line."""
+    found: dict[str, int] = {}
+    for at, line in enumerate(lines):
+        words = words_of_line(line)
+        if words[:2] in (["layer", "add"], ["layer", "drop"], ["layer", "rename"]):
+            for name in words[2:4]:
+                found.setdefault(name, at)
+    return found
 
 
 def _question(line: str) -> str:

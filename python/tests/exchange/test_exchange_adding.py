@@ -270,10 +270,20 @@ class RefusedByRules(AddingCase):
         self.ruled(APART)
         shapes = [FAR.replace("10", f"{place}0") for place in range(2, 7)]
         self.brought(Flurstücke=[(number, wkt) for number, wkt in enumerate([*shapes, OVERLAPPING], 1)])
-        before = self.opened()[1]
+        store = Store(self.store, journal=True, program=PROGRAM)
+        store.add("wells", "POINT (8 8)")
+        store.undo()
+        store.close(save=False)
+        before = self.opened()
         with mock.patch.object(adding, "GROUP_MAX", 2):
             status, out, err = self.add()
-        self.assertEqual((status, self.opened()[1]), (3, before))
+        self.assertEqual((status, self.opened()), (3, before))
+        # What could be redone can be.
+        store = Store(self.store, journal=True, program=PROGRAM)
+        self.addCleanup(store.close, save=False)
+        store.redo()
+        self.assertEqual([feature.wkt for feature in store.show("wells")], ["POINT (5 5)", "POINT (8 8)"])
+        self.assertEqual(store.run("show Flurstucke"), before[1]["Flurstucke"])
         self.assertIn("nothing was added. Refused 37 RuleBroken", err)
         self.assertIn(": 6 (at (500000.12 5600000.00), with 9 of Flurstucke in the store)\n", out)
 
@@ -347,7 +357,8 @@ class NotAdded(AddingCase):
         carried_out, sent = adding._carried_out, []
 
         def interrupted(store, pieces):
-            if sent:
+            # Both are tried in a copy first.
+            if len(sent) == 3:
                 raise KeyboardInterrupt
             sent.append(pieces)
             return carried_out(store, pieces)

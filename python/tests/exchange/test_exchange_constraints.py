@@ -104,16 +104,18 @@ class Out(ConstraintsCase):
         self.assertIn("layer wells: the column number has other constraints", err)
         self.assertFalse(self.target.exists())
 
-    def test_decimals_that_are_one_double_are_refused(self):
-        """They are two values here, and one there: nothing is written."""
+    def test_of_decimals_that_are_no_doubles_none_are_told_apart(self):
+        """They are two values here, and one there."""
         self.made([ValueRule("depths", "unique", "wells", "depth")])
-        with Store(PROGRAM, load=self.store, save=self.store) as store:
-            store.set("wells", 1, "depth", Decimal("0.1"))
-            store.set("wells", 2, "depth", Decimal("0.100000000000000001"))
-        status, _, err = give_back(self.store, self.target, *GRID, "--constraints")
-        self.assertEqual(status, 3)
-        self.assertIn("UNIQUE constraint failed", err)
-        self.assertFalse(self.target.exists())
+        for second, said in (Decimal("0.100000000000000001"), "no constraint says the rule depths unique wells depth"), (Decimal("0.2"), ""):
+            with Store(PROGRAM, load=self.store, save=self.store) as store:
+                store.set("wells", 1, "depth", Decimal("0.1"))
+                store.set("wells", 2, "depth", second)
+            status, _, err = give_back(self.store, self.target, *GRID, "--crs", "EPSG:25832", "--constraints", "--overwrite")
+            self.store.with_name(self.store.name + ".json").unlink()
+            self.assertEqual((status, "UNIQUE" in self.asked("SELECT sql FROM sqlite_master WHERE name = 'wells'")[0][0]), (0, not said), err)
+            self.assertIn(said, err)
+            self.assertEqual([row[0] for row in self.asked("SELECT depth FROM wells ORDER BY fid")][:2], [0.1, float(second)])
 
 
 class Domains(ConstraintsCase):

@@ -18,7 +18,7 @@ from test_exchange import GRID, HAS_GDAL, KINDS, ExchangeCase, Source, bring_in,
 
 from sfstore import Store, files, sidecar
 from sfstore.exchange import importing, reading, views, wayback
-from sfstore.sidecar import Crs, LayerOrigin, Sidecar
+from sfstore.sidecar import Addition, Crs, LayerOrigin, Sidecar
 
 if HAS_GDAL:
     from osgeo import ogr
@@ -80,6 +80,28 @@ class Formats(ExchangeCase):
             path.write_text(right.replace("0-99999", wrong))
             with self.assertRaisesRegex(sidecar.SidecarError, "is no side-car of a store: ValueError"):
                 sidecar.read(str(self.store))
+
+    def test_a_side_car_that_names_many_features_in_all_is_refused_before_it_is_unfolded(self):
+        with Store(PROGRAM, save=self.store) as store:
+            store.run_all(["layer add w point", "add w POINT (1 2)"])
+        many = list(range(sidecar.LEFT_MAX))
+        additions = [Addition("w", str(number), "w", many) for number in range(21)]
+        layer = LayerOrigin("w", "w", "", "", [], [4])
+        told = Sidecar(("0", "0", "1"), None, [layer], [files.digest(str(self.store))], additions)
+        # What is written is read: of the first ones that were added some have no room.
+        sidecar.write(str(self.store), told, told.digests)
+        found = sidecar.read(str(self.store))
+        self.assertEqual((found.layers, found.additions[2:]), ([layer], additions[2:]))
+        self.assertEqual([len(each.left_out) for each in found.additions[:2]], [0, sidecar.LEFT_MAX - 1])
+        path = self.store.with_name(self.store.name + ".json")
+        content = json.loads(path.read_text())
+        content["additions"] = [{"name": "w", "source": str(number), "source_name": "w", "left_out": "1-100000"} for number in range(21)]
+        path.write_text(json.dumps(content))
+        with mock.patch.object(sidecar, "_numbers") as unfolded, self.assertRaisesRegex(
+            sidecar.SidecarError, f"{path} is no side-car of a store: .*more than 2,000,000 features in all"
+        ):
+            sidecar.read(str(self.store))
+        unfolded.assert_not_called()
 
     def test_what_can_be_read_once_alone_is_refused(self):
         for name in ("/vsistdin/", "/vsigzip//vsistdin/"):

@@ -30,6 +30,12 @@ GRIDS = [
 
 
 class Coordinates(unittest.TestCase):
+    def test_a_grid_has_digits_of_ascii_alone(self) -> None:
+        for word in ("1_0", "\u0661", "1\uff10", "x"):
+            with self.assertRaisesRegex(ValueError, f"'{word}' is no decimal number$"):
+                MapUnits(word, "0", "1")
+        self.assertEqual(MapUnits("1e3", "-0.50", "+1").steps("(1000 0.5)"), "(0 1)")
+
     def test_each_step_there_and_back(self) -> None:
         chance = random.Random(89)
         for words in GRIDS:

@@ -247,6 +247,16 @@ class Whole(BatchCase):
         self.assertEqual(self.refused(self.ann, "layer add r polygon", f"add r {CROSSED}"), (13, 1))
         self.assertEqual(self.serving.call("/map")["layers"], before)
 
+    def test_a_geometry_of_a_layer_that_is_another_one_behind_a_line_of_the_batch(self):
+        self.assertEqual(self.done(self.ann, "layer drop w", "layer add w polygon", f"add w {SQUARE}")[2], "ok 1")
+        self.assertEqual(self.ann.answer("undo"), "ok")
+        self.assertEqual(self.done(self.ann, "layer rename w v", "layer rename p w", f"add w {SQUARE}")[2], "ok 4")
+        self.assertEqual(self.ann.answer("undo"), "ok")
+        # It becomes another one behind the line, or one of the same kind.
+        self.assertEqual(self.refused(self.ann, f"add w {SQUARE}", "layer rename w v", "layer rename p w"), (26, 0))
+        self.assertEqual(self.refused(self.ann, "layer drop w", "layer add w point", f"add w {SQUARE}"), (26, 2))
+        self.assertEqual(len(self.shown()), 3)
+
     def test_many_lines(self):
         lines = [line for k in range(700) for line in (f"add w POINT ({k} 0)", "set w last n 5")]
         self.assertEqual(self.refused(self.ann, *lines)[0], 22)

@@ -31,6 +31,8 @@ from sfstore.replica.demo import Trial
 from sfstore.language import MEMBERS
 from sfstore.replica.lines import EDITS, QUESTIONS, asked
 from sfstore.replica.links import Link, LinkLost, LogRefused, servers_of
+from sfstore.replica.log import Dropped, Fence, new_key
+from sfstore.replica.log import Writing as LogWriting
 from sfstore.replica.servers import Pair, Server
 from sfstore.replica.replica import AnswerGone
 from sfstore.replica.session import _door, _is_answered, _Peer
@@ -676,6 +678,55 @@ class Cuts(ReplicaCase):
         with self.assertRaisesRegex(AnswerGone, "nothing was written again: look whether"):
             again.write(["add w POINT (1 1)"], caught.exception.keys)
         self.assertEqual(again.run("show w"), ["1 POINT (1 1)"])
+
+    def test_a_line_that_waits_to_be_tried_again_stands_once_where_its_key_is_dropped_behind_it(self):
+        self.assertIn(self.tried_while_dropped("again"), ([2], Dropped))
+
+    def test_a_line_that_waits_to_be_tried_again_stands_once_where_its_key_is_dropped_before_it(self):
+        self.assertIn(self.tried_while_dropped("drop"), ([2], Dropped))
+
+    def tried_while_dropped(self, first):
+        """What a line is answered that is tried again while all is dropped and somebody else writes. Who waits first is mostly next."""
+        ann, ben = self.town("ann", "ben")
+        key = new_key(ann._following.last())
+        ann._writing.append([key], ["add w POINT (1 1)"], time.monotonic() + 30)
+        cut = owning.cut(self.owner, 0, 10).at
+        ben.follow()
+        did = {}
+        tasks = {"again": lambda: self.tried_again(key, did), "drop": lambda: owning.drop_before(self.owner, cut, 1, "0", 30)}
+        other = Link(self.pair.primary.dsn("ben", self.database))
+        self.addCleanup(other.close)
+        other.ask("BEGIN")
+        other.ask("SELECT sfstore.append(ARRAY[gen_random_uuid()], ARRAY['add w POINT (2 2)'])")
+        threads = []
+        for name in sorted(tasks, key=lambda name: name != first):
+            threads.append(threading.Thread(target=tasks[name]))
+            threads[-1].start()
+            self.wait_for(threads)
+        other.ask("COMMIT")
+        for thread in threads:
+            thread.join()
+        self.assertEqual(self.ask("SELECT at, line FROM sfstore.log"), [(cut + 1, "add w POINT (2 2)")])
+        return did["again"]
+
+    def tried_again(self, key, did):
+        """Has a line written again by another process of ann's."""
+        writing = LogWriting(self.dsn("ann"), Fence(), lambda told: None)
+        try:
+            did["again"] = writing.append([key], ["add w POINT (1 1)"], time.monotonic() + 30)
+        except Dropped:
+            did["again"] = Dropped
+        finally:
+            writing.close()
+
+    def wait_for(self, threads):
+        """Waits until all wait for the log's lock, or are done."""
+        until = time.monotonic() + 10
+        while time.monotonic() < until:
+            [(waiting,)] = self.ask("SELECT count(*) FROM pg_stat_activity WHERE wait_event_type = 'Lock'")
+            if waiting + sum(not thread.is_alive() for thread in threads) >= len(threads):
+                return
+            time.sleep(0.05)
 
     def test_one_that_was_away_writes_nothing_into_a_log_that_was_dropped(self):
         ann, ben = self.town("ann", "ben")

@@ -2,7 +2,10 @@
 
 from __future__ import annotations
 
+import contextlib
 import random
+from collections.abc import Iterator
+from datetime import date
 from decimal import Decimal
 from fractions import Fraction
 from unittest import mock
@@ -10,9 +13,10 @@ from unittest import mock
 import parcels_model as coverage
 from support import TestCase
 
-from sfstore import Refused
+from sfstore import Editor, Refused, Store
 from sfstore.geometry import read_wkt, write_wkt
 from sfstore.tools import NotDone, sending, snap, snapping
+from sfstore.tools.trial import trial_of
 
 
 def jittered(wkt: str, chance: random.Random, far: int) -> str:
@@ -106,13 +110,38 @@ class Near(TestCase):
             self.assertEqual(plan.carry_out(self.store), 3)
             for _ in range(3):
                 self.store.undo()
-            # The last group breaks a rule: those before it are taken back.
+            # The last group breaks a rule: none is carried out, and what could be redone can be.
             before = self.store.show("p")
             self.store.add_layer("q")
-            self.store.add("q", "POINT (80 1)")
+            self.store.add_column("q", "day", "date")
+            self.store.set("q", self.store.add("q", "POINT (80 1)"), "day", date(2024, 2, 29))
             self.store.run("rule add kept each q equals some p")
+            self.store.add("q", "POINT (0 0)")
+            self.store.undo()
             self.assertRaises(Refused, plan.carry_out, self.store)
             self.assertEqual(self.store.show("p"), before)
+            self.store.redo()
+            self.assertEqual((self.store.show("p"), len(self.store.show("q"))), (before, 2))
+
+    def test_groups_that_no_trial_has_refused_are_taken_back(self) -> None:
+        for at in range(0, 30, 10):
+            self.store.add("p", f"POINT ({at} 0)")
+            self.store.add("p", f"POINT ({at} 1)")
+        plan = snapping(self.store, ["p"], 1)
+        before = self.store.show("p")
+
+        @contextlib.contextmanager
+        def behind_it(store: Editor) -> Iterator[Store]:
+            with trial_of(store) as trial:
+                yield trial
+            self.store.delete("p", max(feature for _, feature in plan.changed))
+
+        with mock.patch.object(sending, "GROUP_MAX", 1), mock.patch.object(sending, "trial_of", behind_it):
+            self.assertRaises(Refused, plan.carry_out, self.store)
+            self.store.redo()
+            self.store.undo()
+            self.store.undo()
+        self.assertEqual(self.store.show("p"), before)
 
 
 class Coverage(TestCase):
