@@ -27,7 +27,11 @@ class _File:
     """A file without a name, which is gone when nobody has it any more."""
 
     def __init__(self, folder: str) -> None:
-        self.bytes = tempfile.TemporaryFile(buffering=_BUFFER, dir=folder or None)
+        self._folder = folder
+        try:
+            self.bytes = tempfile.TemporaryFile(buffering=_BUFFER, dir=folder or None)
+        except OSError as error:
+            raise _named(error, folder) from None
         self.size = 0
         # A seek to where it stands would write out each record by itself.
         self._is_at_end = True
@@ -35,10 +39,13 @@ class _File:
 
     def add(self, record: bytes) -> None:
         """Writes a record behind the others."""
-        if not self._is_at_end:
-            self.bytes.seek(self.size)
-            self._is_at_end = True
-        self.bytes.write(record)
+        try:
+            if not self._is_at_end:
+                self.bytes.seek(self.size)
+                self._is_at_end = True
+            self.bytes.write(record)
+        except OSError as error:
+            raise _named(error, self._folder) from None
         self.size += len(record)
 
     def record(self, place: int, length: int) -> bytes:
@@ -49,6 +56,11 @@ class _File:
         if len(found) < length:
             raise OSError("a file of features on their way is cut off")
         return found
+
+
+def _named(error: OSError, folder: str) -> OSError:
+    """The fault with the folder in which it is: the file has no name that would help."""
+    return OSError(error.errno, error.strerror, folder or ".")
 
 
 def _close(file: IO[bytes]) -> None:

@@ -4,6 +4,7 @@ from __future__ import annotations
 
 import contextlib
 import datetime
+import errno
 import gc
 import io
 import os
@@ -114,6 +115,18 @@ class OnTheirWay(unittest.TestCase):
             self.assertEqual(os.listdir(folder), [])
         with self.assertRaises(OSError):
             Features(os.path.join(folder, "gone"), TYPES)
+
+    def test_a_fault_names_the_folder(self):
+        with self.assertRaises(FileNotFoundError) as raised:
+            Features("/nowhere/at/all", TYPES)
+        self.assertEqual(raised.exception.filename, "/nowhere/at/all")
+        features = Features("", TYPES)
+        full = OSError(errno.ENOSPC, os.strerror(errno.ENOSPC))
+        with unittest.mock.patch.object(features._file, "bytes") as file:
+            file.write.side_effect = full
+            with self.assertRaises(OSError) as raised:
+                features.append(self.wanted[0])
+        self.assertEqual((raised.exception.errno, raised.exception.filename), (errno.ENOSPC, "."))
 
     def test_numbers_that_stand_twice(self):
         self.assertTrue(are_distinct([]))
