@@ -204,10 +204,13 @@ END $$;
 CREATE FUNCTION sfstore.drop_before(place bigint, replicas int, age interval DEFAULT '1 hour') RETURNS bigint
 LANGUAGE plpgsql SET search_path = pg_catalog, pg_temp AS $$
 DECLARE
-  alike int := (SELECT count(*) FROM sfstore.sums WHERE at = place);
-  files int := (SELECT count(DISTINCT sum) FROM sfstore.sums WHERE at = place);
+  alike int;
+  files int;
   dropped bigint;
 BEGIN
+  -- Whoever writes meanwhile finds a key, or that it was dropped: the head is written too, so that nobody goes on from before.
+  UPDATE sfstore.head SET standbys = standbys;
+  SELECT count(*), count(DISTINCT sum) INTO alike, files FROM sfstore.sums WHERE at = place;
   IF alike < replicas OR files <> 1 THEN
     RAISE 'at the cut % stand % different files of % replicas; one file of % is wanted', place, files, alike, replicas
       USING ERRCODE = 'SF104';
@@ -215,8 +218,6 @@ BEGIN
   IF (SELECT put_down FROM sfstore.cuts WHERE at = place) > clock_timestamp() - age THEN
     RAISE 'the cut % is not older than %', place, age USING ERRCODE = 'SF104';
   END IF;
-  -- Whoever writes meanwhile finds a key, or that it was dropped.
-  PERFORM FROM sfstore.head FOR UPDATE;
   DELETE FROM sfstore.log WHERE at <= place;
   GET DIAGNOSTICS dropped = ROW_COUNT;
   DELETE FROM sfstore.sums WHERE at < place;

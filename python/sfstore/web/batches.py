@@ -206,7 +206,12 @@ def _carried(editor: Editor, lines: Sequence[str], begin: Callable[[list[str]], 
 
 
 def _late_ones(lines: Sequence[str]) -> dict[int, _Late]:
-    """The lines that say ``last``, by their places. `ValueError` where there is no such addition."""
+    """The lines that say ``last``, by their places. `ValueError` where there is no such addition.
+
+    So it is where a line behind it adds, drops or renames the layer or a column of it: it is carried out behind that, and would mean
+    something else.
+    """
+    changed = _last_changes(lines)
     additions: dict[str, int] = {}
     late: dict[int, _Late] = {}
     for at, line in enumerate(lines):
@@ -214,6 +219,8 @@ def _late_ones(lines: Sequence[str]) -> dict[int, _Late]:
         if found is not None:
             if found[2] not in additions:
                 raise ValueError(f"no line before {line[:40]!r} adds a feature to {found[2]}")
+            if changed.get(found[2], at) > at:
+                raise ValueError(f"a line behind {line[:40]!r} changes what {found[2]} is, or its columns: send it by itself")
             late[at] = _Late(found[1], line[found.end() :], additions[found[2]])
             continue
         words = words_of_line(line)
@@ -247,6 +254,18 @@ def _other_layers(lines: Sequence[str]) -> dict[str, int]:
         if words[:2] in (["layer", "add"], ["layer", "drop"], ["layer", "rename"]):
             for name in words[2:4]:
                 found.setdefault(name, at)
+    return found
+
+
+def _last_changes(lines: Sequence[str]) -> dict[str, int]:
+    """The names of layers that lines add, drop or rename, or of which they change columns, with the place of the last such line."""
+    found: dict[str, int] = {}
+    for at, line in enumerate(lines):
+        words = words_of_line(line)
+        if len(words) > 2 and words[1] in ("add", "drop", "rename"):
+            # Of a layer that is renamed both names; of a column its layer.
+            names = {"layer": words[2:4], "column": words[2:3]}.get(words[0], [])
+            found.update(dict.fromkeys(names, at))
     return found
 
 

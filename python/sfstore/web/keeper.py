@@ -176,9 +176,11 @@ class Keeper:
             self._check_grid(grid, over)
             for line, seen in zip(batch.lines, batch.seen):
                 self._check_seen(Asked(batch.editor, batch.page, line, seen))
-            if len(batch.lines) > 1 and not is_group(batch.lines):
-                self._try(store, batch)
-            return self._limited(store, len(batch.lines), lambda: self._carry_out_all(store, batch))
+            # The trial has the same one: it makes a line longer.
+            mark = new_mark() if len(batch.lines) > 1 and not is_group(batch.lines) else ""
+            if mark:
+                self._try(store, batch, mark)
+            return self._limited(store, len(batch.lines), lambda: self._carry_out_all(store, batch, mark))
 
         return self._do(job)
 
@@ -400,7 +402,7 @@ class Keeper:
             raise refused[0]
         return cast(Answer, answers[0])
 
-    def _carry_out_all(self, store: Store, batch: Batch) -> Done:
+    def _carry_out_all(self, store: Store, batch: Batch, mark: str) -> Done:
         editor, page = batch.editor, batch.page
         self._log.give_up()
         if is_group(batch.lines):
@@ -413,7 +415,6 @@ class Keeper:
             if len(lines) > 1:
                 self._log.begin(store.unsaved, editor, lines)
 
-        mark = new_mark() if len(batch.lines) > 1 else ""
         outcome = carry_out(_speaker(store, editor), batch.lines, begin, mark)
         number = self._version + 1
         asked = (Asked(editor, page, line, None) for line, _ in outcome.accepted)
@@ -427,17 +428,17 @@ class Keeper:
         self._log.end()
         return Done(outcome.answers, self._version)
 
-    def _try(self, store: Store, batch: Batch) -> None:
+    def _try(self, store: Store, batch: Batch, mark: str) -> None:
         """`LineRefused` where a line of a batch would be refused, of which a part would be carried out before, and taken back.
 
         Something else could be redone then than before. So it is tried in another program with the same content, by the same
-        editor and with a mark, which make a line longer.
+        editor and with the same mark, which make a line longer.
         """
         editor, lines = batch.editor, batch.lines
         made = store.unsaved_lines
         trial = loaded(self._program, Snapshot(store._open_file(), made, self._version, self._file, self._grid, self._store_number))
         try:
-            refused = self._limited(trial, len(lines), lambda: refusal_of(_speaker(trial, editor), lines, new_mark()))
+            refused = self._limited(trial, len(lines), lambda: refusal_of(_speaker(trial, editor), lines, mark))
         finally:
             trial.close(save=False)
         if refused is not None:

@@ -257,6 +257,20 @@ class Whole(BatchCase):
         self.assertEqual(self.refused(self.ann, "layer drop w", "layer add w point", f"add w {SQUARE}"), (26, 2))
         self.assertEqual(len(self.shown()), 3)
 
+    def test_last_is_of_no_layer_that_is_another_one_behind_it(self):
+        before = self.shown()
+        for behind in (
+            ["layer rename w v", "layer rename p w"],
+            ["layer drop w", "layer add w point"],
+            ["column drop w n", "column add w n int"],
+        ):
+            with self.subTest(behind=behind):
+                status, told = self.batch(self.ann, "add w POINT (7 7)", "set w last n 5", *behind)
+                self.assertEqual(status, 400)
+                self.assertIn("a line behind 'set w last n 5'", told["error"])
+        self.assertEqual(self.shown(), before)
+        self.assertEqual(self.ann.refused("redo")["name"], "NothingToRedo")
+
     def test_many_lines(self):
         lines = [line for k in range(700) for line in (f"add w POINT ({k} 0)", "set w last n 5")]
         self.assertEqual(self.refused(self.ann, *lines)[0], 22)
