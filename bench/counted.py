@@ -3,6 +3,7 @@
 
     bench/counted.py OLD NEW questions              rows of bench/questions.py
     bench/counted.py OLD NEW towns [FEATURES]       rows of bench/towns.py
+    bench/counted.py OLD NEW edits                  rows of bench/single_edits.py, for each line
     bench/counted.py OLD NEW matrices               matrices of bench/calls.py, whose programs these are
 
 Time hides a factor of 1.2 on a shared machine, instructions don't. `valgrind` counts them, whatever else runs. Make the programs
@@ -23,6 +24,7 @@ from functools import lru_cache
 from pathlib import Path
 
 import questions
+import single_edits
 import towns
 
 COUNTED = re.compile(rb"Collected : (\d+)")
@@ -72,6 +74,29 @@ def printed_rows(program: Path, measure: Callable[[], None]) -> dict[str, float]
     return {name: float(figure[1]) for name, figure in found if figure}
 
 
+def carried_out(program: Path, text: bytes) -> bytes:
+    """These lines, if the program refuses none of them: a line that is refused takes less than an edit."""
+    answers = subprocess.run([program], input=text, stdout=subprocess.PIPE, check=True).stdout
+    if b"refused" in answers:
+        raise RuntimeError(f"{program} refuses an edit")
+    return text
+
+
+def edits(program: Path) -> dict[str, float]:
+    """What a line of each kind of edit takes. None is counted once for all: each meets what those before it have left."""
+
+    @lru_cache(maxsize=1)
+    def count(text: str) -> int:
+        return instructions([program], text.encode())[0]
+
+    def line(row: single_edits.Row) -> float:
+        start = "\n".join(row.before)
+        whole = carried_out(program, "\n".join([start, *row.lines]).encode())
+        return (instructions([program], whole)[0] - count(start)) / row.edits
+
+    return {row.name: line(row) for size in single_edits.SIZES for row in single_edits.rows_of(size)}
+
+
 def matrix(program: Path, row: int) -> tuple[str, float]:
     """What a matrix of bench/calls.py takes, with its name."""
     once, said = instructions([program, "matrices", "1", str(row)])
@@ -84,6 +109,8 @@ def counted(program: Path, rows: str) -> dict[str, float]:
     """What each row of a measurement takes, in instructions of a program."""
     if rows == "matrices":
         return dict(matrix(program, row) for row in range(MATRICES))
+    if rows == "edits":
+        return edits(program)
     return printed_rows(program, questions.main if rows == "questions" else towns.main)
 
 
@@ -92,7 +119,7 @@ def main(words: Sequence[str]) -> int:
     parser = argparse.ArgumentParser(description="counts instructions of two programs")
     parser.add_argument("old", type=Path)
     parser.add_argument("new", type=Path)
-    parser.add_argument("rows", choices=["questions", "towns", "matrices"])
+    parser.add_argument("rows", choices=["questions", "towns", "edits", "matrices"])
     parser.add_argument("features", nargs="?", default="100000")
     asked = parser.parse_args(words)
     sys.argv = ["towns.py", asked.features]
