@@ -15,6 +15,7 @@ from __future__ import annotations
 import argparse
 import contextlib
 import io
+import os
 import re
 import subprocess
 import sys
@@ -29,6 +30,8 @@ import towns
 
 COUNTED = re.compile(rb"Collected : (\d+)")
 FIGURE = re.compile(r" ([\d.]+) us")
+# Of a long copy valgrind counts each byte as an instruction, if the C library does it by one instruction: here it does none so.
+SHORT_COPIES = {"GLIBC_TUNABLES": f"glibc.cpu.x86_rep_movsb_threshold={2**40}"}
 # As many rows as bench/calls.py has of matrices.
 MATRICES = 24
 
@@ -38,6 +41,7 @@ def instructions(words: Sequence[str | Path], text: bytes = b"") -> tuple[int, b
     ended = subprocess.run(
         ["valgrind", "--tool=callgrind", "--callgrind-out-file=/dev/null", *words],
         input=text,
+        env={**os.environ, **SHORT_COPIES},
         stdout=subprocess.DEVNULL,
         stderr=subprocess.PIPE,
         check=True,
