@@ -170,10 +170,10 @@ class Calls:
     def _map(self, editor: int, body: Body) -> Body:
         """The layers with their columns, whose step is next, and how far the map reaches.
 
-        They are those of a version of a store, which ``content`` and ``store`` name. ``file`` is the number that the store has
-        for a later server.
+        They are those of a version of a store, which ``content`` and ``store`` name. ``point`` is how far it has come: a later
+        server that is told so as ``known`` says whether its store goes on from there.
         """
-        number, file = self._keeper.last_store, self._keeper.last_file
+        number, point, goes_on = self._keeper.going_on(_known(body))
 
         def question(store: Store) -> Body:
             self._check_over(body, self._looks)
@@ -189,7 +189,9 @@ class Calls:
             grid = self._looks.grid
             told = {"grid": _told_grid(grid), "grid_mark": grid.mark, "grid_fault": grid.fault or None}
             now = self._looks.number
-            shown = {"store": now, "file": file if now == number else now, "content": self._looks.version}
+            # Where another one has taken its place in between, nothing is said of it.
+            lineage: Body = {"point": point, "goes_on": goes_on} if now == number else {"point": "", "goes_on": False}
+            shown = {"store": now, **lineage, "content": self._looks.version}
             return {**told, **shown, "layers": told_layers}
 
         version, to_undo, to_redo = self._keeper.steps()
@@ -386,7 +388,8 @@ class Calls:
         try:
             if body.get("corners"):
                 return self._fitting(batch, _corners(body["corners"]), _number(body, "shown", 0, 2**53), grid, over)
-            return self._changing(editor, lambda: self._keeper.carry_out_all(batch, grid=grid, over=over))._asdict()
+            done = self._changing(editor, lambda: self._keeper.carry_out_all(batch, grid=grid, over=over))
+            return {**done._asdict(), "point": self._keeper.last_point}
         except LineRefused as refused:
             # One beside was sent by nobody: the last line is named, and the words are those of what is beside.
             line = lines[refused.at] if refused.at < len(lines) else refused.refused.line
@@ -408,7 +411,8 @@ class Calls:
             except Overtaken:
                 continue
             own = [_edited(*each) for each, fit in zip(zip(lines, done.answers), found.lines) if fit != each[0]]
-            return {"answers": done.answers[: len(lines)], "version": done.version, "beside": [*own, *found.beside]}
+            told = {"answers": done.answers[: len(lines)], "version": done.version, "point": self._keeper.last_point}
+            return {**told, "beside": [*own, *found.beside]}
         raise Unavailable(_OVERTAKEN)
 
     def _changing(self, editor: int, change: Callable[[], _T]) -> _T:
@@ -552,7 +556,7 @@ class Calls:
             with contextlib.suppress(OSError):
                 self._keeper.with_layer_changes(self._follow_layers)
             self._history.take(name, "save", "save")
-            self.events.tell({"saved": name, "file": self._keeper.last_file, "undo": None, "redo": None})
+            self.events.tell({"saved": name, "point": self._keeper.last_point, "undo": None, "redo": None})
 
         try:
             self._keeper.save(told, over)
@@ -620,6 +624,7 @@ class Calls:
             "undo": self._step(last.to_undo),
             "redo": self._step(last.to_redo),
             "changed": merged(changes),
+            "point": self._keeper.last_point,
         }
         self._history.take(told["editor"], told["shown"], told["shown_step"], told["changed"], last.version)
         self.events.tell(told)
@@ -809,6 +814,11 @@ def _number(body: Body, name: str, least: int, most: int) -> int:
 def _store(body: Body) -> int | None:
     """The number of the store that who calls has before them, where they say it."""
     return None if body.get("store") is None else _number(body, "store", 0, 2**53)
+
+
+def _known(body: Body) -> str:
+    """The point of the store that who calls knows; no point where they know none."""
+    return "" if body.get("known") is None else _text(body, "known")
 
 
 def _tiles(body: Body) -> dict[Tile, int]:

@@ -2,7 +2,6 @@
 
 from __future__ import annotations
 
-import hashlib
 import threading
 import time
 import warnings
@@ -19,6 +18,7 @@ from sfstore.store import Answer, Editor, ProgramEnded, Refused, Store
 from sfstore.web.batches import Batch, Done, LineRefused, NotTakenBack, carry_out, carry_out_group, is_group, moved, refusal_of, take_back
 from sfstore.web.batchlog import BatchLog, new_mark
 from sfstore.web.changes import Change, Changes, Target, seen_of
+from sfstore.web.lineage import Lineage
 from sfstore.web.steps import LayerChange, Step, Steps
 
 __all__ = ["Asked", "ChangedMeanwhile", "Edit", "Keeper", "Overtaken", "Snapshot", "StoreChanged", "Unavailable", "loaded"]
@@ -30,8 +30,6 @@ _EDIT_SECONDS, _LINE_SECONDS = 60.0, 0.005
 # How many versions each millisecond has room for, as a power of 2: no program carries out so many edits. A page
 # counts exactly up to 2**53, which are the milliseconds of some 139 years from 1970.
 _VERSIONS_OF_A_MILLISECOND = 11
-# So many hexadecimal digits of a sum: a page counts exactly so far.
-_STORE_DIGITS = 13
 _WRITTEN_OVER = "The store's file was written by another program just now: ask again."
 
 
@@ -144,8 +142,7 @@ class Keeper:
         # Above all of an earlier server: what somebody has seen there is none of these, and has to be looked at again.
         self._version = (time.time_ns() // 1_000_000) << _VERSIONS_OF_A_MILLISECOND
         self._file = 0
-        self._store_number, self._file_number = 0, 0
-        self._head: str | None = None
+        self._lineage = Lineage(path)
         self._thread = ThreadPoolExecutor(1, "keeper")
         try:
             self.recovered = self._thread.submit(self._opened).result().recovered
@@ -208,16 +205,17 @@ class Keeper:
 
     @property
     def last_store(self) -> int:
-        """A number that is another one whenever another store has taken the place of the one that was open. Any thread may ask it.
-
-        It is that of the file from which the first edit here goes on: a later server of it has the same one, up to a save.
-        """
-        return self._store_number
+        """A number that is another one whenever another store has taken the place of the one that was open. Any thread may ask it."""
+        return self._lineage.number
 
     @property
-    def last_file(self) -> int:
-        """The number that the store will have where another server opens it from now on. Any thread may ask it."""
-        return self._file_number
+    def last_point(self) -> str:
+        """How far the store has come, by which a later server knows it, as `sfstore.web.lineage` says. Any thread may ask it."""
+        return self._lineage.point
+
+    def going_on(self, point: str) -> tuple[int, str, bool]:
+        """The number of the store that is open, how far it has come, and whether it goes on from a point that somebody knows."""
+        return self._do(lambda store: (self._lineage.number, self._lineage.point, self._lineage.goes_on(point)))
 
     def save(self, told: Callable[[], object] = lambda: None, over: int | None = None) -> None:
         """Saves the store; the history begins anew. `GridChanged` where its grid is another one than when it was opened.
@@ -345,7 +343,7 @@ class Keeper:
                 store = Store(self._path, journal=True, program=self._program, warn_far_off=False)
             try:
                 self._steps = self._found_steps(store)
-                self._note_head()
+                self._lineage.opened()
             except BaseException:
                 # Another program has written the file in this very moment.
                 store.close(save=False)
@@ -358,13 +356,6 @@ class Keeper:
             # An edit that was in doubt may be there or not.
             self._changes.forget(self._version)
         return self._store
-
-    def _note_head(self) -> None:
-        """Notes which file the edits go on from. One that was not seen when the store was left is of another store."""
-        head = self._log.head()
-        if self._head != head:
-            self._store_number = self._file_number = _number_of(head)
-        self._head = head
 
     def _found_steps(self, store: Store) -> Steps:
         """The steps of the journal. What a crash has left of a batch, or of its undo, is taken back: it was not answered."""
@@ -436,7 +427,7 @@ class Keeper:
         """
         editor, lines = batch.editor, batch.lines
         made = store.unsaved_lines
-        trial = loaded(self._program, Snapshot(store._open_file(), made, self._version, self._file, self._grid, self._store_number))
+        trial = loaded(self._program, Snapshot(store._open_file(), made, self._version, self._file, self._grid, self._lineage.number))
         try:
             refused = self._limited(trial, len(lines), lambda: refusal_of(_speaker(trial, editor), lines, mark))
         finally:
@@ -458,6 +449,7 @@ class Keeper:
 
     def _tell(self, edits: Sequence[Edit]) -> None:
         if edits:
+            self._lineage.moved()
             for told in self.follow:
                 told(edits)
 
@@ -474,7 +466,7 @@ class Keeper:
             raise
         if made_for not in (None, self._grid.mark):
             raise GridChanged(self._path)
-        if made_over not in (None, self._store_number):
+        if made_over not in (None, self._lineage.number):
             raise StoreChanged(self._path)
 
     def _check_seen(self, asked: Asked) -> None:
@@ -497,12 +489,11 @@ class Keeper:
                 self._steps = Steps()
                 self._version += 1
                 self._file += 1
-                self._head = self._log.head()
-                self._file_number = _number_of(self._head)
+                self._lineage.moved()
 
     def _begun(self, store: Store) -> _Begun:
         read = store._reading()
-        return _Begun(store._open_file(), read, self._version, self._file, self._grid, self._store_number)
+        return _Begun(store._open_file(), read, self._version, self._file, self._grid, self._lineage.number)
 
     def _close(self) -> int:
         if self._store is None:
@@ -511,11 +502,6 @@ class Keeper:
         unsaved = store.unsaved
         store.close(save=False)
         return unsaved
-
-
-def _number_of(head: str) -> int:
-    """The number of a store whose edits go on from a file, by the first line of their journal."""
-    return int(hashlib.sha256(head.encode()).hexdigest()[:_STORE_DIGITS], 16)
 
 
 def loaded(program: str, snapshot: Snapshot) -> Store:

@@ -515,21 +515,23 @@ class OtherStore(PageCase):
         status, answer = serving.posted("/batch", self.ann.key, page="p", lines=[addition], seen=[None], store=now)
         self.assertEqual((status, answer["answers"]), (200, ["ok 3"]))
 
-    def test_a_store_has_the_number_that_it_had_for_a_server_before(self):
+    def test_a_later_server_knows_the_store_by_how_far_it_had_come(self):
         serving = self.serve()
-        ann, told = serving.log_in("Ann"), serving.call("/map")
-        self.assertEqual(told["file"], told["store"])
-        ann.line("delete parcels 1")
-        for is_saved in (False, True):
-            if is_saved:
-                ann.line("save")
-            before, told = told, serving.call("/map")
-            self.assertEqual(told["store"], before["file"])
-            self.assertEqual(told["file"] == told["store"], not is_saved)
+        ann, numbers, points = serving.log_in("Ann"), set(), []
+        for lines in (["delete parcels 1"], ["save"], ["undo", "delete parcels 2"], []):
+            for line in lines:
+                ann.line(line)
+            told = serving.call("/map")
+            self.assertNotIn(told["store"], numbers)
+            numbers.add(told["store"])
+            points.append(told["point"])
             serving.end(signal.SIGKILL)
             serving = self.serve()
             ann = serving.log_in("Ann")
-        self.assertEqual(serving.call("/map")["store"], told["file"])
+            found = [serving.call("/map", known=point)["goes_on"] for point in ["", "no point", *points]]
+            # What was known before a save is known by no journal any more.
+            self.assertEqual(found, [False] * 2 + [point[-32:] == points[-1][-32:] for point in points])
+        self.assertEqual(len(numbers), 4)
 
     def test_a_store_that_is_opened_again_or_saved_is_the_same(self):
         page = self.opened()
