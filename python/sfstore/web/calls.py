@@ -33,7 +33,7 @@ from sfstore.web.background import Background
 from sfstore.web.batches import Batch, LineRefused, batch_of
 from sfstore.web.changed import changed_by, merged
 from sfstore.web.changes import Change, Target, feature_of, features_of, seen_of
-from sfstore.web.drawn import PAGE_COMMANDS, PAGE_TOOLS, Undrawn, drawn_in
+from sfstore.web.drawn import PAGE_COMMANDS, PAGE_TOOLS, Drawn, Undrawn, drawn_in
 from sfstore.web.editors import Editors
 from sfstore.web.events import Events
 from sfstore.web.history import ENTRIES_MAX, History
@@ -207,6 +207,7 @@ class Calls:
         inner = None if body.get("window") is None else _box(body, "window")
 
         def question(store: Store) -> Body:
+            self._check_over(body, self._looks)
             layers = [layer.name for layer in store.layers() if layer.name in wanted]
             return {"layers": window_of(store, layers, box, inner), "most": ELEMENTS_MAX}
 
@@ -218,6 +219,7 @@ class Calls:
         pictures = self._pictures
 
         def question(store: Store) -> list[Body]:
+            self._check_over(body, self._drawer)
             until = time.monotonic() + _DRAWING_SECONDS
             return [
                 _told_tile(tile, pictures.of(store, layer, tile, until), seen) for tile, seen in tiles.items()
@@ -228,7 +230,12 @@ class Calls:
     def _shapes(self, editor: int, body: Body) -> Body:
         """Features of a layer as windows have them, of those that are there."""
         layer, features = spelling.name(_text(body, "layer")), ids_of(body.get("ids"))
-        return {"features": self._looks.ask(editor, lambda store: shapes_of(store, layer, features))}
+
+        def question(store: Store) -> list[list[Any]]:
+            self._check_over(body, self._looks)
+            return shapes_of(store, layer, features)
+
+        return {"features": self._looks.ask(editor, question)}
 
     def _feature(self, editor: int, body: Body) -> Body:
         """A feature with its text, its coordinates and its values, and who has changed it last.
@@ -239,6 +246,7 @@ class Calls:
         layer, feature = spelling.name(_text(body, "layer")), _number(body, "id", 0, 2**32 - 1)
 
         def look(store: Store) -> Body:
+            self._check_over(body, self._looks)
             shape = read_wkb(bytes.fromhex(store.hex(layer, feature)))
             values, rules = store.get(layer, feature)[0].values, _by_column(store.rules())
             told = [
@@ -350,7 +358,7 @@ class Calls:
             grid = self._grid_for(body)
             units = grid.units if _is_in_units(body) else None
             try:
-                drawn = self._questions.ask(editor, lambda store: drawn_in(store, self._questions.version, given, units))
+                drawn = self._questions.ask(editor, lambda store: self._drawn_over(body, store, given, units))
                 if not drawn.lines:
                     return {"text": drawn.said}
                 lines = drawn.lines
@@ -371,6 +379,11 @@ class Calls:
                 # Of a group no line is at fault where a rule is broken. Before it is made, a question of the tool is refused.
                 return {"refused": self._refusal(refused, text_of(lines) if refused.rule else refused.line)}
         raise Unavailable(_OVERTAKEN)
+
+    def _drawn_over(self, body: Body, store: Store, given: str, units: MapUnits | None) -> Drawn:
+        """What a tool makes of the store that who calls has before them."""
+        self._check_over(body, self._questions)
+        return drawn_in(store, self._questions.version, given, units)
 
     def _batch(self, editor: int, body: Body) -> Body:
         """Carries out lines as a whole: all of them, or none.
@@ -444,10 +457,13 @@ class Calls:
     def _table(self, editor: int, body: Body) -> Body:
         """A page of a layer's table; or how much of the table is read, so that the page asks again."""
         wanted, questions = _wanted(body), self._questions
+
+        def question(store: Store) -> Body:
+            self._check_over(body, questions)
+            return {**self._tables.page(store, wanted), "version": questions.version}
+
         try:
-            return questions.ask(
-                editor, lambda store: {**self._tables.page(store, wanted), "version": questions.version}
-            )
+            return questions.ask(editor, question)
         except Reading as reading:
             return {"read": reading.read, "total": reading.total}
         except Refused as refused:
@@ -461,6 +477,8 @@ class Calls:
     def _history_of(self, editor: int, body: Body) -> Body:
         """What was done, the newest first; or what was done before something of it."""
         before = None if body.get("before") is None else _number(body, "before", 0, 2**53)
+        if _store(body) is not None:
+            self._looks.ask(editor, lambda store: self._check_over(body, self._looks))
         return self._history.page(before, _number(body, "count", 1, ENTRIES_MAX))
 
     def _styles_of(self, editor: int, body: Body) -> Body:
