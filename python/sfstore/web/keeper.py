@@ -241,7 +241,7 @@ class Keeper:
                     begun.opened.file.close()
                 # A save has taken its place.
                 if self.is_at(begun.file):
-                    raise Unavailable(f"{reason_of(error)}. Every edit that was answered is in the journal.") from error
+                    raise Unavailable(f"{reason_of(error)}. {self._lineage.kept_words()}") from error
 
     def is_at(self, file: int) -> bool:
         """Whether the file is the one of a snapshot."""
@@ -290,12 +290,12 @@ class Keeper:
         except (JournalError, ProgramEnded, RuntimeError, OSError) as error:
             if self._store is not None and not self._is_open(self._store):
                 self._drop()
-            raise Unavailable(f"{reason_of(error)}. Every edit that was answered is in the journal.") from error
+            raise Unavailable(f"{reason_of(error)}. {self._lineage.kept_words()}") from error
 
     def _limited(self, store: Store, lines: int, job: Callable[[], _T]) -> _T:
         """Does a job of so many lines. Where it takes too long, its program is ended, and the store opened anew next time.
 
-        `Unavailable` says so: what was asked for is in the journal, or nothing of it.
+        `Unavailable` says so: what was asked for was carried out, or nothing of it.
         """
         stopped = threading.Event()
 
@@ -312,8 +312,7 @@ class Keeper:
             if not stopped.is_set():
                 raise
             raise Unavailable(
-                f"That took more than {seconds:.0f} seconds and was stopped. Look whether it was carried out: "
-                "every edit that was answered is in the journal."
+                f"That took more than {seconds:.0f} seconds and was stopped. Look whether it was carried out. {self._lineage.kept_words()}"
             ) from error
         finally:
             timer.cancel()

@@ -59,6 +59,12 @@ class Lineage:
         """Whether the store has all that it had at a point, as `goes_on` says it."""
         return goes_on(self._store, point)
 
+    def kept_words(self) -> str:
+        """Whether the journal has all edits that were answered, in a sentence: it is looked at."""
+        if self.goes_on(self.point):
+            return "Every edit that was answered is in the journal."
+        return "Look at the last edits: the journal is not as it was behind them, or can't be read."
+
 
 class Known:
     """What a program knows of a store on which it works, whichever servers of it come and go."""

@@ -956,6 +956,30 @@ class Trial(TestCase):
         self.assertLess(time.monotonic() - begun, 10)
 
 
+class Kept(TestCase):
+    """What is said of the edits where the store can't be opened."""
+
+    def test_the_journal_is_looked_at_before_anything_is_said_of_it(self):
+        path = self.folder / "town.sfs"
+        with Store(program=PROGRAM, save=path) as store:
+            store.run_all(MADE.decode().splitlines())
+        keeper = Keeper(str(path), PROGRAM)
+        self.addCleanup(ended, keeper)
+        keeper.carry_out(Asked(1, "page", "set p 1 number 5", None))
+        records = path.with_name("town.sfs.journal").read_bytes()
+        path.write_bytes(b"no store")
+        for content, words in (
+            (records, "Every edit that was answered is in the journal."),
+            (records[:-9], "Look at the last edits: the journal is not as it was behind them"),
+            (None, "Look at the last edits: the journal is not as it was behind them"),
+        ):
+            path.with_name("town.sfs.journal").unlink()
+            if content is not None:
+                path.with_name("town.sfs.journal").write_bytes(content)
+            with self.subTest(content=content), self.assertRaisesRegex(Unavailable, words):
+                keeper.ask(lambda store: store.stop() or store.layers())
+
+
 class Cut(TestCase):
     """Journals that end in the middle of a batch, or of its being taken back."""
 
