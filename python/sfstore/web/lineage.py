@@ -1,4 +1,4 @@
-"""Which store is open: the server gives it a number, and a later server can tell whether it still is that store.
+"""Which store is open: the server gives it a number, and a later server says whether it still is that store.
 
     known = Known()
     known.take(client.call("map", **known.named))      # True: nothing is known yet
@@ -35,7 +35,7 @@ _READ_BYTES = 1 << 16
 class Lineage:
     """The store of a file as a server has it open, by number and point.
 
-    One thread tells it of openings and edits; any may ask for the number and the point.
+    One thread notes openings and edits; any may ask for the number and the point.
     """
 
     def __init__(self, store: str) -> None:
@@ -75,7 +75,7 @@ class Known:
 
     @property
     def named(self) -> dict[str, Any]:
-        """What a call of ``map`` says, to be told whether the store is still the one that is known."""
+        """What a call of ``map`` says, so that its answer says whether the store is still the one that is known."""
         return {"known": self._point}
 
     def take(self, told: dict[str, Any]) -> bool:
