@@ -11,7 +11,7 @@ import itertools
 import json
 import os
 import re
-from collections.abc import Callable, Iterable, Iterator
+from collections.abc import Callable, Iterable, Iterator, Sequence
 from dataclasses import asdict, dataclass, field, replace
 from typing import Any
 
@@ -106,6 +106,8 @@ class LayerOrigin:
     """The features that it has taken without some of their values, in the same way."""
     left_columns: list[str] = field(default_factory=list)
     """What it has left out of all features: columns, and ``Z or M``."""
+    cut: bool = False
+    """Whether there are more such features than these two name."""
 
 
 @dataclass(frozen=True)
@@ -122,13 +124,15 @@ class Addition:
     """As `LayerOrigin` has them, and the others too."""
     without: list[int] = field(default_factory=list)
     left_columns: list[str] = field(default_factory=list)
+    cut: bool = False
 
     def and_(self, other: Addition) -> Addition:
         """What was left out of the same source twice."""
-        left_out = sorted({*self.left_out, *other.left_out})[:LEFT_MAX]
-        without = sorted({*self.without, *other.without})[:LEFT_MAX]
+        left_out = sorted({*self.left_out, *other.left_out})
+        without = sorted({*self.without, *other.without})
         columns = list(dict.fromkeys([*self.left_columns, *other.left_columns]))
-        return replace(self, left_out=left_out, without=without, left_columns=columns)
+        cut = self.cut or other.cut or max(len(left_out), len(without)) > LEFT_MAX
+        return replace(self, left_out=left_out[:LEFT_MAX], without=without[:LEFT_MAX], left_columns=columns, cut=cut)
 
 
 @dataclass(frozen=True)
@@ -306,36 +310,38 @@ def _sidecar(content: dict[str, Any]) -> Sidecar:
         raise ValueError(content["format"])
     x, y, step = map(str, content["grid"])
     crs = content["crs"]
-    told = [*content["layers"], *content.get("additions", [])]
-    if sum(_count(each.get(name, "")) for each in told for name in _LEFT) > _NAMED_MAX:
-        raise ValueError(f"more than {_NAMED_MAX:,} features in all")
-    layers = list(map(_layer, content["layers"]))
+    room = _Room(_NAMED_MAX)
+    layers = [_layer(each, room) for each in content["layers"]]
     known = None if crs is None else Crs(**_texts(crs))
-    # Those of former versions name no additions.
-    additions = list(map(_addition, content.get("additions", [])))
+    # Those of former versions name no additions. There is room for the last ones before the others, as where they are written.
+    additions = [_addition(each, room) for each in reversed(content.get("additions", []))][::-1]
     if len(additions) > _ADDITIONS_MAX:
         raise ValueError(f"more than {_ADDITIONS_MAX:,} additions")
     return Sidecar((x, y, step), known, layers, list(map(str, content["digests"])), additions)
 
 
-def _layer(content: dict[str, Any]) -> LayerOrigin:
+def _layer(content: dict[str, Any], room: _Room) -> LayerOrigin:
     columns = list(map(_column, content.pop("columns")))
-    left_out, without, left_columns = _left(content)
-    return LayerOrigin(columns=columns, left_out=left_out, without=without, left_columns=left_columns, **_texts(content))
+    told: dict[str, Any] = {**_left(content, room), **_texts(content)}
+    return LayerOrigin(columns=columns, **told)
 
 
-def _addition(content: dict[str, Any]) -> Addition:
-    left_out, without, left_columns = _left(content)
-    return Addition(left_out=left_out, without=without, left_columns=left_columns, **_texts(content))
+def _addition(content: dict[str, Any], room: _Room) -> Addition:
+    told: dict[str, Any] = {**_left(content, room), **_texts(content)}
+    return Addition(**told)
 
 
-def _left(content: dict[str, Any]) -> tuple[list[int], list[int], list[str]]:
-    """Takes what was left out of the content of a layer or an addition."""
-    left_out, without = (_numbers(content.pop(name, "")) for name in _LEFT)
-    left_columns = content.pop("left_columns", [])
+def _left(content: dict[str, Any], room: _Room) -> dict[str, Any]:
+    """Takes what was left out of the content of a layer or an addition: as many features as there is room for."""
+    texts = {name: content.pop(name, "") for name in _LEFT}
+    left_columns, cut = content.pop("left_columns", []), content.pop("cut", False)
     if not isinstance(left_columns, list) or not all(isinstance(name, str) for name in left_columns):
         raise TypeError(f"{left_columns!r} is no list of names")
-    return left_out, without, left_columns
+    if not isinstance(cut, bool):
+        raise TypeError(f"{cut!r} is neither true nor false")
+    numbers = {name: _numbers(text, room) for name, text in texts.items()}
+    is_short = any(len(numbers[name]) < _count(text) for name, text in texts.items())
+    return {**numbers, "left_columns": left_columns, "cut": cut or is_short}
 
 
 class _Room:
@@ -344,7 +350,7 @@ class _Room:
     def __init__(self, left: int) -> None:
         self._left = left
 
-    def first(self, numbers: list[int]) -> list[int]:
+    def first(self, numbers: Sequence[int]) -> Sequence[int]:
         """The first ones of some, as many as there is room for."""
         taken = numbers[: self._left]
         self._left -= len(taken)
@@ -352,13 +358,18 @@ class _Room:
 
 
 def _left_told(layer: LayerOrigin | Addition, room: _Room) -> dict[str, Any]:
-    """A layer or an addition as it is written. Former versions take a layer without what was left out."""
+    """A layer or an addition as it is written, with the features that there is room for.
+
+    Former versions take one that is without what was left out.
+    """
     told = asdict(layer)
-    told.update({name: _ranges(room.first(told[name])) for name in _LEFT})
-    return {name: each for name, each in told.items() if each or name not in (*_LEFT, "left_columns")}
+    named = {name: room.first(told[name]) for name in _LEFT}
+    told["cut"] = layer.cut or any(len(named[name]) < len(told[name]) for name in _LEFT)
+    told.update({name: _ranges(numbers) for name, numbers in named.items()})
+    return {name: each for name, each in told.items() if each or name not in (*_LEFT, "left_columns", "cut")}
 
 
-def _ranges(numbers: list[int]) -> str:
+def _ranges(numbers: Iterable[int]) -> str:
     """Rising numbers as ranges.
 
     >>> _ranges([1, 2, 3, 7])
@@ -385,14 +396,14 @@ def _count(text: Any) -> int:
     return sum(max(0, last - first + 1) for first, last in _ends(text))
 
 
-def _numbers(text: Any) -> list[int]:
-    """The numbers of ranges. `ValueError` where they are none, or more than an import names: a side-car may be a stranger's."""
-    found: list[int] = []
-    for first, last in _ends(text):
-        if last - first >= LEFT_MAX - len(found):
-            raise ValueError(f"more than {LEFT_MAX:,} features")
-        found += range(first, last + 1)
-    return found
+def _numbers(text: Any, room: _Room) -> list[int]:
+    """The numbers of ranges, the first ones that there is room for: no others are unfolded, as a side-car may be a stranger's.
+
+    `ValueError` where they are none, or more than an import names of a layer.
+    """
+    if _count(text) > LEFT_MAX:
+        raise ValueError(f"more than {LEFT_MAX:,} features")
+    return [number for first, last in _ends(text) for number in room.first(range(first, last + 1))]
 
 
 def _column(content: dict[str, Any]) -> ColumnOrigin:

@@ -2831,6 +2831,52 @@ add parcels POLYGON ((1000 0, 1100 0, 1100 100, 1000 0))
         self.settle()
         self.assert_alike()
 
+    def behind_another_server(self, act):
+        """Another server, which finds what was done to the files while there was none."""
+        self.server().kill()
+        self.server().wait()
+        self.wait_for(lambda: not self.session.is_connected)
+        self.session._again.stop()
+        act()
+        self.session._try_again()
+        self.wait_for(lambda: self.session.is_connected)
+
+    def restored(self, contents):
+        """Has files as they were."""
+        for path, content in contents.items():
+            path.unlink(missing_ok=True)
+            if content is not None:
+                path.write_bytes(content)
+
+    def backup(self):
+        """The store's file, and its journal."""
+        paths = [self.path, self.path.with_name("town.sfs.journal")]
+        return {path: path.read_bytes() if path.exists() else None for path in paths}
+
+    def test_a_backup_from_before_a_save_gets_nothing(self):
+        before = self.backup()
+        self.session.line("delete parcels 200")
+        self.session.line("save")
+        self.turn(0.3)
+        self.behind_another_server(lambda: None)
+        self.assertNotIn("Another store", " ".join(self.said()))
+        parcels = self.edited()
+        for _ in range(2):
+            self.behind_another_server(lambda: self.restored(before))
+            self.assertFalse(parcels.commitChanges())
+        self.assertIn("Another store is in the place of town.sfs now", " ".join(self.said()))
+        self.assertNotIn("owner='Ann''s'", " ".join(self.stored().values()))
+
+    def test_nor_does_one_without_the_last_edits(self):
+        before = self.backup()
+        self.session.line("delete parcels 200")
+        self.turn(0.3)
+        parcels = self.edited()
+        self.behind_another_server(lambda: self.restored(before))
+        self.assertIn("Another store is in the place of town.sfs now", " ".join(self.said()))
+        self.assertFalse(parcels.commitChanges())
+        self.assertNotIn("owner='Ann''s'", " ".join(self.stored().values()))
+
     def test_a_store_that_was_saved_is_the_same_behind_another_server(self):
         parcels = self.edited()
         ben = self.ben()

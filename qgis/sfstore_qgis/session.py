@@ -19,6 +19,7 @@ from sfstore.results import Column
 from sfstore.web.batches import is_group
 from sfstore.web.changes import renamed_by
 from sfstore.web.client import CallFailed, Client, Events, ServerGone, start_server
+from sfstore.web.lineage import Known
 
 from .following import Followed, followed
 from .mirror import WKB_NAMES, Mirror
@@ -137,8 +138,7 @@ class Session(QObject):
         """Where it lies now. Other threads take it as a whole: another map may come in the store's place."""
         self.mirrors: dict[tuple[str, str], Mirror] = {}
         self.steps: dict[str, dict[str, Any] | None] = {"undo": None, "redo": None}
-        # The numbers that this store has had, and the one that it has where another server opens it.
-        self._numbers: set[int] = set()
+        self._known = Known()
         self._hidden: set[tuple[str, str]] = set()
         self.version = 0
         self.changes = 0
@@ -270,6 +270,7 @@ class Session(QObject):
         if "refused" in answer:
             raise Refusal(answer["refused"])
         self.changes += 1
+        self._known.hear(answer)
         self._own.add(answer["version"])
         self._follow_soon(answer.get("beside", []))
         found: list[str] = answer["answers"]
@@ -277,7 +278,7 @@ class Session(QObject):
 
     def is_same(self, store: int) -> bool:
         """Whether a number is that of the store that is shown, which another server may have given another one."""
-        return store in self._numbers
+        return self._known.is_same(store)
 
     def line(self, line: str) -> dict[str, Any]:
         """The answer of a line of the console. `Refusal` where it is refused."""
@@ -365,7 +366,7 @@ class Session(QObject):
             if not events.wait(min(seconds, CALL_SECONDS)):
                 raise ServerGone(f"Open the store again in a moment: the server of {os.path.basename(self.path)} does not answer.")
             client.seconds = seconds
-            told = client.call("map")
+            told = client.call("map", **self._known.named)
         except BaseException:
             client.close()
             raise
@@ -411,11 +412,8 @@ class Session(QObject):
 
     def _load_anew(self, told: dict[str, Any]) -> None:
         """Has all mirrors read anew what the store is now, be it on another grid, or another store. ``told`` is what the server says of the map."""
-        is_other = not self.is_same(told["store"])
         is_moved = self._place_anew()
-        if is_other:
-            self._numbers.clear()
-        self._take(told)
+        is_other = not self._take(told)
         if is_other and not is_moved:
             # Before anything is read, which may fail: it is tried again then as of this store.
             self.replaced.emit()
@@ -425,10 +423,10 @@ class Session(QObject):
             else:
                 mirror.load_anew()
 
-    def _take(self, told: dict[str, Any]) -> None:
-        """Takes the numbers of the store that the server has."""
+    def _take(self, told: dict[str, Any]) -> bool:
+        """Takes the number of the store that the server has. Whether it is the store that was open before."""
         self.placing = self.placing._replace(store=told["store"])
-        self._numbers |= {told["store"], told["file"]}
+        return self._known.take(told)
 
     def _place_anew(self) -> bool:
         """Takes the grid and the reference system that the store has now. Whether they are others than before."""
@@ -446,6 +444,9 @@ class Session(QObject):
         try:
             news = self._events.take()
             self.changes += len(news)
+            # Before another store is asked for, in whose place these have nothing to say.
+            for event in news:
+                self._known.hear(event)
             self._follow(followed(news, self._own))
             for event in news:
                 self._note(event)
@@ -455,7 +456,7 @@ class Session(QObject):
 
     def _follow(self, news: Followed) -> None:
         if news.is_anew:
-            self._load_anew(self.call("map"))
+            self._load_anew(self.call("map", **self._known.named))
             return
         for (layer, _), mirror in self.mirrors.items():
             if layer in news.whole:
@@ -471,8 +472,6 @@ class Session(QObject):
             told = self.call("map")
             self.version, event = told["version"], {**event, **told}
             self.renewed.emit()
-        if "saved" in event:
-            self._numbers.add(event["file"])
         for verb in self.steps:
             if verb in event:
                 self.steps[verb] = event[verb]

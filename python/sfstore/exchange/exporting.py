@@ -162,6 +162,7 @@ def _left_words(left: LayerOrigin | Addition) -> list[str]:
     return [
         *([f"{len(left.left_out)} features"] if left.left_out else []),
         *([f"values of {len(left.without)} features"] if left.without else []),
+        *(["further features or values of them, which the side-car has no room to name"] if left.cut else []),
         *([f"all of {ogr.printable(', '.join(left.left_columns))}"] if left.left_columns else []),
     ]
 

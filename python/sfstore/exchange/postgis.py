@@ -23,7 +23,7 @@ from sfstore.exchange.moments import day_of, moment_of
 from sfstore.exchange.placing import uninterrupted
 from sfstore.exchange.replacing import gone_words, keyed, several
 from sfstore.geometry import read_wkb, write_wkb
-from sfstore.sidecar import Crs, Sidecar
+from sfstore.sidecar import Addition, Crs, Sidecar
 from sfstore.storefile import FileFeature
 
 __all__ = ["write_database"]
@@ -355,6 +355,7 @@ class _Export:
         origin = part.origin
         if origin.identifier_column not in table.columns:
             return
+        self._check_named(part, table)
         lost = [key for key, *_ in self._rows_of(table, origin.identifier_column, [], origin.left_out)]
         if lost:
             raise _left_out(part, f"features that its import has left out: {several(lost)}")
@@ -370,17 +371,25 @@ class _Export:
                 if values is not None and text is not None and values.get(column.number) is None:
                     raise _left_out(part, f"a value of {ogr.printable(column.name)} that its import has left out, of {key}")
 
+    def _check_named(self, part: Part, table: _Table) -> None:
+        """`ogr.ExchangeError` where the side-car does not name all that was left out of a table, and the table has rows: nobody knows which they are."""
+        is_cut = part.origin.cut or any(each.cut for each in self._additions_of(part))
+        if is_cut and self._run(self.format("SELECT 1 FROM {} LIMIT 1", self.quoted(table.schema, table.name))).fetchall():
+            raise ogr.ExchangeError(
+                f"the table {ogr.printable(part.name)} may have features, or values of them, that an import has left out: they are more "
+                "than the side-car has room to name. They would be lost: empty the table first, or name another database or schema"
+            )
+
+    def _additions_of(self, part: Part) -> list[Addition]:
+        """What was left out of a layer's table when it was added to the layer."""
+        return [each for each in self._additions if (each.name, each.source, each.source_name) == (part.layer.name, "", part.name)]
+
     def _check_additions(self, part: Part, table: _Table) -> None:
         """`ogr.ExchangeError` where a table has features that an addition of it has left out, as a whole or values of them.
 
         What it has taken has other keys in the store.
         """
-        wanted = {
-            key
-            for each in self._additions
-            if (each.name, each.source, each.source_name) == (part.layer.name, "", part.name)
-            for key in (*each.left_out, *each.without)
-        }
+        wanted = {key for each in self._additions_of(part) for key in (*each.left_out, *each.without)}
         lost = [key for key, *_ in self._rows_of(table, part.origin.identifier_column, [], sorted(wanted))]
         if lost:
             raise _left_out(part, f"features of which an addition has left out all or some values: {several(lost)}")

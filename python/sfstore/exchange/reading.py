@@ -164,16 +164,18 @@ class LayerImport:
         """What the side-car keeps of the layer."""
         told = self._report.identifiers(self._source_name)
         taken = set(map(self._source_of, self._features.ids)) if told else set()
+        left_out, without = sorted(told - taken), sorted(told & taken)
         return LayerOrigin(
             self._name,
             kept_name(self._layer.name, self._name),
             kept_name(self._layer.identifier_column, ""),
             kept_name(self._layer.geometry_column, ""),
             self._origins,
-            sorted(told - taken)[:LEFT_MAX],
-            sorted(told & taken)[:LEFT_MAX],
+            left_out[:LEFT_MAX],
+            without[:LEFT_MAX],
             [kept_name(name, "") if left.has_values else f"the domain of {kept_name(name, '')}" for left in self._fields.left for name in left.names]
             + ([_NO_PLACE] if self._flattened else []),
+            max(len(left_out), len(without)) > LEFT_MAX,
         )
 
     def _batches(self) -> Iterator[list[_Candidate]]:

@@ -207,6 +207,7 @@ DECLARE
   alike int;
   files int;
   dropped bigint;
+  gone bigint[];
 BEGIN
   -- Whoever writes meanwhile finds a key, or that it was dropped: the head is written too, so that nobody goes on from before.
   UPDATE sfstore.head SET standbys = standbys;
@@ -220,8 +221,10 @@ BEGIN
   END IF;
   DELETE FROM sfstore.log WHERE at <= place;
   GET DIAGNOSTICS dropped = ROW_COUNT;
-  DELETE FROM sfstore.sums WHERE at < place;
-  DELETE FROM sfstore.cuts WHERE at < place;
+  -- A cut for which somebody is just putting a sum down stays until the next time: everybody would wait for them here.
+  gone := ARRAY(SELECT at FROM sfstore.cuts WHERE at < place FOR UPDATE SKIP LOCKED);
+  DELETE FROM sfstore.sums WHERE at = ANY (gone);
+  DELETE FROM sfstore.cuts WHERE at = ANY (gone);
   RETURN dropped;
 END $$;
 

@@ -33,7 +33,7 @@ from sfstore.web.background import Background
 from sfstore.web.batches import Batch, LineRefused, batch_of
 from sfstore.web.changed import changed_by, merged
 from sfstore.web.changes import Change, Target, feature_of, features_of, seen_of
-from sfstore.web.drawn import PAGE_COMMANDS, PAGE_TOOLS, Undrawn, drawn_in
+from sfstore.web.drawn import PAGE_COMMANDS, PAGE_TOOLS, Drawn, Undrawn, drawn_in
 from sfstore.web.editors import Editors
 from sfstore.web.events import Events
 from sfstore.web.history import ENTRIES_MAX, History
@@ -170,10 +170,10 @@ class Calls:
     def _map(self, editor: int, body: Body) -> Body:
         """The layers with their columns, whose step is next, and how far the map reaches.
 
-        They are those of a version of a store, which ``content`` and ``store`` name. ``file`` is the number that the store has
-        for a later server.
+        They are those of a version of a store, which ``content`` and ``store`` name. ``point`` is how far it has come: a later
+        server that is told so as ``known`` says whether its store goes on from there.
         """
-        number, file = self._keeper.last_store, self._keeper.last_file
+        number, point, goes_on = self._keeper.going_on(_known(body))
 
         def question(store: Store) -> Body:
             self._check_over(body, self._looks)
@@ -189,7 +189,9 @@ class Calls:
             grid = self._looks.grid
             told = {"grid": _told_grid(grid), "grid_mark": grid.mark, "grid_fault": grid.fault or None}
             now = self._looks.number
-            shown = {"store": now, "file": file if now == number else now, "content": self._looks.version}
+            # Where another one has taken its place in between, nothing is said of it.
+            lineage: Body = {"point": point, "goes_on": goes_on} if now == number else {"point": "", "goes_on": False}
+            shown = {"store": now, **lineage, "content": self._looks.version}
             return {**told, **shown, "layers": told_layers}
 
         version, to_undo, to_redo = self._keeper.steps()
@@ -205,6 +207,7 @@ class Calls:
         inner = None if body.get("window") is None else _box(body, "window")
 
         def question(store: Store) -> Body:
+            self._check_over(body, self._looks)
             layers = [layer.name for layer in store.layers() if layer.name in wanted]
             return {"layers": window_of(store, layers, box, inner), "most": ELEMENTS_MAX}
 
@@ -216,6 +219,7 @@ class Calls:
         pictures = self._pictures
 
         def question(store: Store) -> list[Body]:
+            self._check_over(body, self._drawer)
             until = time.monotonic() + _DRAWING_SECONDS
             return [
                 _told_tile(tile, pictures.of(store, layer, tile, until), seen) for tile, seen in tiles.items()
@@ -226,7 +230,12 @@ class Calls:
     def _shapes(self, editor: int, body: Body) -> Body:
         """Features of a layer as windows have them, of those that are there."""
         layer, features = spelling.name(_text(body, "layer")), ids_of(body.get("ids"))
-        return {"features": self._looks.ask(editor, lambda store: shapes_of(store, layer, features))}
+
+        def question(store: Store) -> list[list[Any]]:
+            self._check_over(body, self._looks)
+            return shapes_of(store, layer, features)
+
+        return {"features": self._looks.ask(editor, question)}
 
     def _feature(self, editor: int, body: Body) -> Body:
         """A feature with its text, its coordinates and its values, and who has changed it last.
@@ -237,6 +246,7 @@ class Calls:
         layer, feature = spelling.name(_text(body, "layer")), _number(body, "id", 0, 2**32 - 1)
 
         def look(store: Store) -> Body:
+            self._check_over(body, self._looks)
             shape = read_wkb(bytes.fromhex(store.hex(layer, feature)))
             values, rules = store.get(layer, feature)[0].values, _by_column(store.rules())
             told = [
@@ -348,7 +358,7 @@ class Calls:
             grid = self._grid_for(body)
             units = grid.units if _is_in_units(body) else None
             try:
-                drawn = self._questions.ask(editor, lambda store: drawn_in(store, self._questions.version, given, units))
+                drawn = self._questions.ask(editor, lambda store: self._drawn_over(body, store, given, units))
                 if not drawn.lines:
                     return {"text": drawn.said}
                 lines = drawn.lines
@@ -370,6 +380,11 @@ class Calls:
                 return {"refused": self._refusal(refused, text_of(lines) if refused.rule else refused.line)}
         raise Unavailable(_OVERTAKEN)
 
+    def _drawn_over(self, body: Body, store: Store, given: str, units: MapUnits | None) -> Drawn:
+        """What a tool makes of the store that who calls has before them."""
+        self._check_over(body, self._questions)
+        return drawn_in(store, self._questions.version, given, units)
+
     def _batch(self, editor: int, body: Body) -> Body:
         """Carries out lines as a whole: all of them, or none.
 
@@ -386,7 +401,8 @@ class Calls:
         try:
             if body.get("corners"):
                 return self._fitting(batch, _corners(body["corners"]), _number(body, "shown", 0, 2**53), grid, over)
-            return self._changing(editor, lambda: self._keeper.carry_out_all(batch, grid=grid, over=over))._asdict()
+            done = self._changing(editor, lambda: self._keeper.carry_out_all(batch, grid=grid, over=over))
+            return {**done._asdict(), "point": self._keeper.last_point}
         except LineRefused as refused:
             # One beside was sent by nobody: the last line is named, and the words are those of what is beside.
             line = lines[refused.at] if refused.at < len(lines) else refused.refused.line
@@ -408,7 +424,8 @@ class Calls:
             except Overtaken:
                 continue
             own = [_edited(*each) for each, fit in zip(zip(lines, done.answers), found.lines) if fit != each[0]]
-            return {"answers": done.answers[: len(lines)], "version": done.version, "beside": [*own, *found.beside]}
+            told = {"answers": done.answers[: len(lines)], "version": done.version, "point": self._keeper.last_point}
+            return {**told, "beside": [*own, *found.beside]}
         raise Unavailable(_OVERTAKEN)
 
     def _changing(self, editor: int, change: Callable[[], _T]) -> _T:
@@ -440,10 +457,13 @@ class Calls:
     def _table(self, editor: int, body: Body) -> Body:
         """A page of a layer's table; or how much of the table is read, so that the page asks again."""
         wanted, questions = _wanted(body), self._questions
+
+        def question(store: Store) -> Body:
+            self._check_over(body, questions)
+            return {**self._tables.page(store, wanted), "version": questions.version}
+
         try:
-            return questions.ask(
-                editor, lambda store: {**self._tables.page(store, wanted), "version": questions.version}
-            )
+            return questions.ask(editor, question)
         except Reading as reading:
             return {"read": reading.read, "total": reading.total}
         except Refused as refused:
@@ -457,6 +477,8 @@ class Calls:
     def _history_of(self, editor: int, body: Body) -> Body:
         """What was done, the newest first; or what was done before something of it."""
         before = None if body.get("before") is None else _number(body, "before", 0, 2**53)
+        if _store(body) is not None:
+            self._looks.ask(editor, lambda store: self._check_over(body, self._looks))
         return self._history.page(before, _number(body, "count", 1, ENTRIES_MAX))
 
     def _styles_of(self, editor: int, body: Body) -> Body:
@@ -552,7 +574,7 @@ class Calls:
             with contextlib.suppress(OSError):
                 self._keeper.with_layer_changes(self._follow_layers)
             self._history.take(name, "save", "save")
-            self.events.tell({"saved": name, "file": self._keeper.last_file, "undo": None, "redo": None})
+            self.events.tell({"saved": name, "point": self._keeper.last_point, "undo": None, "redo": None})
 
         try:
             self._keeper.save(told, over)
@@ -620,6 +642,7 @@ class Calls:
             "undo": self._step(last.to_undo),
             "redo": self._step(last.to_redo),
             "changed": merged(changes),
+            "point": self._keeper.last_point,
         }
         self._history.take(told["editor"], told["shown"], told["shown_step"], told["changed"], last.version)
         self.events.tell(told)
@@ -809,6 +832,11 @@ def _number(body: Body, name: str, least: int, most: int) -> int:
 def _store(body: Body) -> int | None:
     """The number of the store that who calls has before them, where they say it."""
     return None if body.get("store") is None else _number(body, "store", 0, 2**53)
+
+
+def _known(body: Body) -> str:
+    """The point of the store that who calls knows; no point where they know none."""
+    return "" if body.get("known") is None else _text(body, "known")
 
 
 def _tiles(body: Body) -> dict[Tile, int]:

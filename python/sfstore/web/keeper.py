@@ -2,7 +2,6 @@
 
 from __future__ import annotations
 
-import hashlib
 import threading
 import time
 import warnings
@@ -14,11 +13,12 @@ from sfstore.commandline import reason_of
 from sfstore.journal import JournalError
 from sfstore.kept import OpenFile
 from sfstore.mapgrid import GridChanged, MapGrid
-from sfstore.program import is_edit
+from sfstore.program import Program, is_edit, started, stopped_after
 from sfstore.store import Answer, Editor, ProgramEnded, Refused, Store
 from sfstore.web.batches import Batch, Done, LineRefused, NotTakenBack, carry_out, carry_out_group, is_group, moved, refusal_of, take_back
 from sfstore.web.batchlog import BatchLog, new_mark
 from sfstore.web.changes import Change, Changes, Target, seen_of
+from sfstore.web.lineage import Lineage
 from sfstore.web.steps import LayerChange, Step, Steps
 
 __all__ = ["Asked", "ChangedMeanwhile", "Edit", "Keeper", "Overtaken", "Snapshot", "StoreChanged", "Unavailable", "loaded"]
@@ -30,8 +30,6 @@ _EDIT_SECONDS, _LINE_SECONDS = 60.0, 0.005
 # How many versions each millisecond has room for, as a power of 2: no program carries out so many edits. A page
 # counts exactly up to 2**53, which are the milliseconds of some 139 years from 1970.
 _VERSIONS_OF_A_MILLISECOND = 11
-# So many hexadecimal digits of a sum: a page counts exactly so far.
-_STORE_DIGITS = 13
 _WRITTEN_OVER = "The store's file was written by another program just now: ask again."
 
 
@@ -144,8 +142,7 @@ class Keeper:
         # Above all of an earlier server: what somebody has seen there is none of these, and has to be looked at again.
         self._version = (time.time_ns() // 1_000_000) << _VERSIONS_OF_A_MILLISECOND
         self._file = 0
-        self._store_number, self._file_number = 0, 0
-        self._head: str | None = None
+        self._lineage = Lineage(path)
         self._thread = ThreadPoolExecutor(1, "keeper")
         try:
             self.recovered = self._thread.submit(self._opened).result().recovered
@@ -208,16 +205,17 @@ class Keeper:
 
     @property
     def last_store(self) -> int:
-        """A number that is another one whenever another store has taken the place of the one that was open. Any thread may ask it.
-
-        It is that of the file from which the first edit here goes on: a later server of it has the same one, up to a save.
-        """
-        return self._store_number
+        """A number that is another one whenever another store has taken the place of the one that was open. Any thread may ask it."""
+        return self._lineage.number
 
     @property
-    def last_file(self) -> int:
-        """The number that the store will have where another server opens it from now on. Any thread may ask it."""
-        return self._file_number
+    def last_point(self) -> str:
+        """How far the store has come, by which a later server knows it, as `sfstore.web.lineage` says. Any thread may ask it."""
+        return self._lineage.point
+
+    def going_on(self, point: str) -> tuple[int, str, bool]:
+        """The number of the store that is open, how far it has come, and whether it goes on from a point that somebody knows."""
+        return self._do(lambda store: (self._lineage.number, self._lineage.point, self._lineage.goes_on(point)))
 
     def save(self, told: Callable[[], object] = lambda: None, over: int | None = None) -> None:
         """Saves the store; the history begins anew. `GridChanged` where its grid is another one than when it was opened.
@@ -243,7 +241,7 @@ class Keeper:
                     begun.opened.file.close()
                 # A save has taken its place.
                 if self.is_at(begun.file):
-                    raise Unavailable(f"{reason_of(error)}. Every edit that was answered is in the journal.") from error
+                    raise Unavailable(f"{reason_of(error)}. {self._lineage.kept_words()}") from error
 
     def is_at(self, file: int) -> bool:
         """Whether the file is the one of a snapshot."""
@@ -292,12 +290,12 @@ class Keeper:
         except (JournalError, ProgramEnded, RuntimeError, OSError) as error:
             if self._store is not None and not self._is_open(self._store):
                 self._drop()
-            raise Unavailable(f"{reason_of(error)}. Every edit that was answered is in the journal.") from error
+            raise Unavailable(f"{reason_of(error)}. {self._lineage.kept_words()}") from error
 
     def _limited(self, store: Store, lines: int, job: Callable[[], _T]) -> _T:
         """Does a job of so many lines. Where it takes too long, its program is ended, and the store opened anew next time.
 
-        `Unavailable` says so: what was asked for is in the journal, or nothing of it.
+        `Unavailable` says so: what was asked for was carried out, or nothing of it.
         """
         stopped = threading.Event()
 
@@ -314,8 +312,7 @@ class Keeper:
             if not stopped.is_set():
                 raise
             raise Unavailable(
-                f"That took more than {seconds:.0f} seconds and was stopped. Look whether it was carried out: "
-                "every edit that was answered is in the journal."
+                f"That took more than {seconds:.0f} seconds and was stopped. Look whether it was carried out. {self._lineage.kept_words()}"
             ) from error
         finally:
             timer.cancel()
@@ -345,7 +342,7 @@ class Keeper:
                 store = Store(self._path, journal=True, program=self._program, warn_far_off=False)
             try:
                 self._steps = self._found_steps(store)
-                self._note_head()
+                self._lineage.opened()
             except BaseException:
                 # Another program has written the file in this very moment.
                 store.close(save=False)
@@ -358,13 +355,6 @@ class Keeper:
             # An edit that was in doubt may be there or not.
             self._changes.forget(self._version)
         return self._store
-
-    def _note_head(self) -> None:
-        """Notes which file the edits go on from. One that was not seen when the store was left is of another store."""
-        head = self._log.head()
-        if self._head != head:
-            self._store_number = self._file_number = _number_of(head)
-        self._head = head
 
     def _found_steps(self, store: Store) -> Steps:
         """The steps of the journal. What a crash has left of a batch, or of its undo, is taken back: it was not answered."""
@@ -436,7 +426,8 @@ class Keeper:
         """
         editor, lines = batch.editor, batch.lines
         made = store.unsaved_lines
-        trial = loaded(self._program, Snapshot(store._open_file(), made, self._version, self._file, self._grid, self._store_number))
+        snapshot = Snapshot(store._open_file(), made, self._version, self._file, self._grid, self._lineage.number)
+        trial = loaded(self._program, snapshot, self._seconds + len(made) * _LINE_SECONDS)
         try:
             refused = self._limited(trial, len(lines), lambda: refusal_of(_speaker(trial, editor), lines, mark))
         finally:
@@ -458,6 +449,7 @@ class Keeper:
 
     def _tell(self, edits: Sequence[Edit]) -> None:
         if edits:
+            self._lineage.moved()
             for told in self.follow:
                 told(edits)
 
@@ -474,7 +466,7 @@ class Keeper:
             raise
         if made_for not in (None, self._grid.mark):
             raise GridChanged(self._path)
-        if made_over not in (None, self._store_number):
+        if made_over not in (None, self._lineage.number):
             raise StoreChanged(self._path)
 
     def _check_seen(self, asked: Asked) -> None:
@@ -497,12 +489,11 @@ class Keeper:
                 self._steps = Steps()
                 self._version += 1
                 self._file += 1
-                self._head = self._log.head()
-                self._file_number = _number_of(self._head)
+                self._lineage.moved()
 
     def _begun(self, store: Store) -> _Begun:
         read = store._reading()
-        return _Begun(store._open_file(), read, self._version, self._file, self._grid, self._store_number)
+        return _Begun(store._open_file(), read, self._version, self._file, self._grid, self._lineage.number)
 
     def _close(self) -> int:
         if self._store is None:
@@ -513,28 +504,47 @@ class Keeper:
         return unsaved
 
 
-def _number_of(head: str) -> int:
-    """The number of a store whose edits go on from a file, by the first line of their journal."""
-    return int(hashlib.sha256(head.encode()).hexdigest()[:_STORE_DIGITS], 16)
+class _Limited(Store):
+    """A program that is ended where it takes longer than some seconds to load."""
+
+    def __init__(self, program: str, load: int | None, seconds: float) -> None:
+        self._seconds = seconds
+        super().__init__(program=program, load=load, warn_far_off=False)
+
+    def _started(self, words: list[str], handed: Sequence[int]) -> Program:
+        return started(words, handed=handed, seconds=self._seconds)
 
 
-def loaded(program: str, snapshot: Snapshot) -> Store:
-    """A program with the content of a snapshot. `Unavailable` where somebody has written over its file since it was looked at."""
+def loaded(program: str, snapshot: Snapshot, seconds: float = threading.TIMEOUT_MAX) -> Store:
+    """A program with the content of a snapshot.
+
+    `Unavailable` where somebody has written over its file since it was looked at, or where it takes longer than some seconds:
+    so long to load it, and so long for the edits behind it.
+    """
     opened = snapshot.opened
-    if opened is None:
-        return _replayed(Store(program=program, warn_far_off=False), snapshot)
-    with opened.file as file:
-        # The open file, since another one may stand under its name by now.
-        store = Store(program=program, load=file.fileno(), warn_far_off=False)
-        if not opened.is_as_seen():
-            store.close(save=False)
-            raise Unavailable(_WRITTEN_OVER)
-    return _replayed(store, snapshot)
+    begun = time.monotonic()
+    try:
+        if opened is None:
+            return _replayed(_Limited(program, None, seconds), snapshot, seconds)
+        with opened.file as file:
+            # The open file, since another one may stand under its name by now.
+            store = _Limited(program, file.fileno(), seconds)
+            if not opened.is_as_seen():
+                store.close(save=False)
+                raise Unavailable(_WRITTEN_OVER)
+        begun = time.monotonic()
+        return _replayed(store, snapshot, seconds)
+    except ProgramEnded as ended:
+        if time.monotonic() - begun < seconds:
+            raise
+        raise Unavailable(f"The store took more than {seconds:.0f} seconds to load in a second program, which was stopped. Nothing was done.") from ended
 
 
-def _replayed(store: Store, snapshot: Snapshot) -> Store:
+def _replayed(store: Store, snapshot: Snapshot, seconds: float) -> Store:
     """A program with the edits behind the file of a snapshot. `Unavailable` where they do not fit what it has loaded."""
-    if any(isinstance(answer, Refused) for answer in store.run_all(snapshot.lines)):
+    with stopped_after(seconds, store.stop):
+        are_refused = any(isinstance(answer, Refused) for answer in store.run_all(snapshot.lines))
+    if are_refused:
         store.close(save=False)
         raise Unavailable(_WRITTEN_OVER)
     return store

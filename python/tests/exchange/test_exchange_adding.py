@@ -187,6 +187,11 @@ class Added(AddingCase):
         )
         self.assertEqual(give_back(self.store, self.target), (0, "", ""))
         self.assertIn(words, give_back(self.store, self.target, "--overwrite")[2])
+        [left] = found.additions
+        sidecar.write(str(self.store), replace(found, additions=[replace(left, left_out=[], cut=True)]), found.digests)
+        words = "has left out: further features or values of them, which the side-car has no room to name; all of photo, number."
+        self.assertIn(words, give_back(self.store, self.target, "--overwrite")[2])
+        sidecar.write(str(self.store), found, found.digests)
         # As often as it is added it is one source.
         self.assertEqual(self.add()[0], 1)
         self.assertEqual(sidecar.read(str(self.store)).additions, found.additions)

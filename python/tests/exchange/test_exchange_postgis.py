@@ -20,7 +20,7 @@ from support import FOLDER, PROGRAM
 from test_exchange import HAS_GDAL, ExchangeCase, Source, bring_in, give_back
 from test_exchange_sets import PLAIN
 
-from sfstore import Store
+from sfstore import Store, sidecar
 from sfstore.exchange import sources
 from sfstore.exchange.sources import OgrLayer
 from sfstore.replica.servers import Server, binaries
@@ -372,6 +372,19 @@ class Others(DatabaseCase):
         self.assertIn("the table w has features of which an addition has left out all or some values: 2. They would be lost", err)
         self.assertEqual(self.ask("SELECT * FROM w ORDER BY id"), before)
         self.ask("DELETE FROM w WHERE id = 2")
+        self.written(self.store, self.target, "--overwrite")
+
+    def test_a_table_is_not_replaced_where_what_was_left_out_has_no_room_in_the_side_car(self):
+        self.ask("CREATE TABLE w (id int PRIMARY KEY, geom geometry(Point)); "
+                 "INSERT INTO w VALUES (1, 'POINT(1 2)'), (2, 'POINT(1.5 2)'), (3, 'POINT(1.5 3)')")
+        before = self.ask("SELECT * FROM w ORDER BY id")
+        with mock.patch.object(sidecar, "_NAMED_MAX", 1):
+            self.assertEqual(bring_in(self.target, self.store, *PLAIN[:4])[0], 1)
+        self.ask("DELETE FROM w WHERE id = 2")
+        err = self.refused(self.store, self.target, "--overwrite")
+        self.assertIn("the table w may have features, or values of them, that an import has left out: they are more than the side-car", err)
+        self.assertEqual(self.ask("SELECT * FROM w ORDER BY id"), [before[0], before[2]])
+        self.ask("DELETE FROM w")
         self.written(self.store, self.target, "--overwrite")
 
     def test_rows_that_a_policy_hides_are_not_removed(self):

@@ -9,6 +9,7 @@ import shutil
 import socket
 import sqlite3
 import unittest
+from dataclasses import replace
 from decimal import Decimal
 from pathlib import Path
 from unittest import mock
@@ -81,7 +82,7 @@ class Formats(ExchangeCase):
             with self.assertRaisesRegex(sidecar.SidecarError, "is no side-car of a store: ValueError"):
                 sidecar.read(str(self.store))
 
-    def test_a_side_car_that_names_many_features_in_all_is_refused_before_it_is_unfolded(self):
+    def test_of_a_side_car_that_names_many_features_in_all_the_first_are_unfolded_and_the_rest_is_marked(self):
         with Store(PROGRAM, save=self.store) as store:
             store.run_all(["layer add w point", "add w POINT (1 2)"])
         many = list(range(sidecar.LEFT_MAX))
@@ -93,15 +94,24 @@ class Formats(ExchangeCase):
         found = sidecar.read(str(self.store))
         self.assertEqual((found.layers, found.additions[2:]), ([layer], additions[2:]))
         self.assertEqual([len(each.left_out) for each in found.additions[:2]], [0, sidecar.LEFT_MAX - 1])
+        self.assertEqual([each.cut for each in found.additions[:3]], [True, True, False])
+        # The mark stays, whatever has room later.
+        sidecar.write(str(self.store), replace(found, additions=found.additions[:2]), found.digests)
+        self.assertEqual(sidecar.read(str(self.store)).additions, found.additions[:2])
         path = self.store.with_name(self.store.name + ".json")
         content = json.loads(path.read_text())
-        content["additions"] = [{"name": "w", "source": str(number), "source_name": "w", "left_out": "1-100000"} for number in range(21)]
+        # As a former version has written it, or a stranger.
+        content["additions"] = [{"name": "w", "source": str(number), "source_name": "w", "left_out": "1-100000"} for number in range(999)]
         path.write_text(json.dumps(content))
-        with mock.patch.object(sidecar, "_numbers") as unfolded, self.assertRaisesRegex(
-            sidecar.SidecarError, f"{path} is no side-car of a store: .*more than 2,000,000 features in all"
-        ):
-            sidecar.read(str(self.store))
-        unfolded.assert_not_called()
+        found = sidecar.read(str(self.store))
+        named = [len(each.left_out) for each in found.additions]
+        self.assertEqual(sum(named) + 1, 20 * sidecar.LEFT_MAX)
+        self.assertEqual([each.cut for each in found.additions], [length < sidecar.LEFT_MAX for length in named])
+        for wrong in (0, "true", None, []):
+            content["additions"][0]["cut"] = wrong
+            path.write_text(json.dumps(content))
+            with self.assertRaisesRegex(sidecar.SidecarError, "is no side-car of a store: TypeError"):
+                sidecar.read(str(self.store))
 
     def test_what_can_be_read_once_alone_is_refused(self):
         for name in ("/vsistdin/", "/vsigzip//vsistdin/"):

@@ -35,6 +35,12 @@ const whole = window.fetch;
 window.asked = [];
 window.fetch = (path, words) => (window.asked.push(path), whole(path, words));
 """
+# Notes the store that each call names.
+NAMING = """
+const whole = window.fetch;
+window.named = [];
+window.fetch = (path, words) => (words.body && window.named.push([path, JSON.parse(words.body).store]), whole(path, words));
+"""
 KEPT = "return [Object.keys(JSON.parse(localStorage['sfstore-keys'])), document.cookie, location.href]"
 
 
@@ -505,6 +511,16 @@ class OtherStore(PageCase):
             ("/map", {}),
             ("/qml", {"layer": "parcels", "kind": ""}),
             ("/save-qml", {"layer": "parcels", "kind": "", "qml": None, "seen": None}),
+            ("/feature", {"layer": "parcels", "id": 1}),
+            ("/window", {"box": [0, 0, 900, 900], "layers": ["parcels"]}),
+            ("/shapes", {"layer": "parcels", "ids": [1]}),
+            ("/pictures", {"layer": "parcels", "level": 0, "tiles": [[0, 0, 0]]}),
+            ("/table", {"layer": "parcels", "sort": None, "falling": False, "conditions": [], "box": None, "from": 0, "count": 9}),
+            ("/labels", {"layer": "parcels", "column": "owner", "ids": [1]}),
+            ("/style", {"layer": "parcels", "style": None}),
+            ("/history", {"before": None, "count": 9}),
+            # This one does nothing, and says why.
+            ("/line", {"page": "p", "line": "fill parcels 1 POINT (1 1)", "seen": 0}),
         ):
             with self.subTest(path=path, body=body):
                 status, answer = serving.posted(path, self.ann.key, **body, store=before)
@@ -515,21 +531,34 @@ class OtherStore(PageCase):
         status, answer = serving.posted("/batch", self.ann.key, page="p", lines=[addition], seen=[None], store=now)
         self.assertEqual((status, answer["answers"]), (200, ["ok 3"]))
 
-    def test_a_store_has_the_number_that_it_had_for_a_server_before(self):
+    def test_all_that_a_page_asks_names_its_store(self):
+        page = self.opened()
+        page.script(NAMING)
+        page.choose((270, 150), "parcels 2, a polygon")
+        for name in ("table", "history"):
+            page.use(f"#tab-{name}")
+        self.ann.line("set parcels 2 owner 'Ann'")
+        page.until(lambda: {"feature", "table", "history", "shapes"} <= {path for path, _ in page.script("return window.named")})
+        store = self.serving.call("/map")["store"]
+        self.assertEqual([each for each in page.script("return window.named") if each[1] != store], [])
+
+    def test_a_later_server_knows_the_store_by_how_far_it_had_come(self):
         serving = self.serve()
-        ann, told = serving.log_in("Ann"), serving.call("/map")
-        self.assertEqual(told["file"], told["store"])
-        ann.line("delete parcels 1")
-        for is_saved in (False, True):
-            if is_saved:
-                ann.line("save")
-            before, told = told, serving.call("/map")
-            self.assertEqual(told["store"], before["file"])
-            self.assertEqual(told["file"] == told["store"], not is_saved)
+        ann, numbers, points = serving.log_in("Ann"), set(), []
+        for lines in (["delete parcels 1"], ["save"], ["undo", "delete parcels 2"], []):
+            for line in lines:
+                ann.line(line)
+            told = serving.call("/map")
+            self.assertNotIn(told["store"], numbers)
+            numbers.add(told["store"])
+            points.append(told["point"])
             serving.end(signal.SIGKILL)
             serving = self.serve()
             ann = serving.log_in("Ann")
-        self.assertEqual(serving.call("/map")["store"], told["file"])
+            found = [serving.call("/map", known=point)["goes_on"] for point in ["", "no point", *points]]
+            # What was known before a save is known by no journal any more.
+            self.assertEqual(found, [False] * 2 + [point[-32:] == points[-1][-32:] for point in points])
+        self.assertEqual(len(numbers), 4)
 
     def test_a_store_that_is_opened_again_or_saved_is_the_same(self):
         page = self.opened()

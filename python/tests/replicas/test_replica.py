@@ -523,6 +523,21 @@ class Sessions(ReplicaCase):
         self.assertEqual((status, "already exists" in said), (3, True))
         self.assertEqual(self.command("state", other)[:2][1].splitlines()[0], "places 1 to 0")
 
+    def test_a_log_of_an_older_version_is_renewed(self):
+        self.assertEqual(self.command("setup", "--renew", self.pair.primary.dsn())[0], 3)
+        [ann] = self.town("ann")
+        ann.run("add w POINT (1 1)")
+        entries, functions = self.ask("SELECT * FROM sfstore.log ORDER BY at"), self.ask(FUNCTIONS)
+        # As an older one was: one function is another one, and one is not there.
+        self.ask("CREATE OR REPLACE FUNCTION sfstore.drop_before(place bigint, replicas int, age interval DEFAULT '1 hour') RETURNS bigint "
+                 "LANGUAGE plpgsql AS 'BEGIN RETURN 7; END'; DROP FUNCTION sfstore.tried_since")
+        self.assertNotEqual(self.ask(FUNCTIONS), functions)
+        self.assertEqual(self.command("setup", "--renew", self.owner), (0, "The log does what this version does.\n", ""))
+        self.assertEqual(self.ask(FUNCTIONS), functions)
+        self.assertEqual(self.ask("SELECT * FROM sfstore.log ORDER BY at"), entries)
+        self.assert_denied("ann", "SELECT sfstore.tried_since(gen_random_uuid())")
+        self.assertEqual(ann.run("add w POINT (2 2)"), "ok 2")
+
     def test_questions_while_no_server_is_there(self):
         self.town("ann")[0].close()
         process = subprocess.Popen(
@@ -549,6 +564,11 @@ class Sessions(ReplicaCase):
         self.assertEqual(answer(b"add w POINT (5 5)\n"), b"ok 2\n")
         _, said = process.communicate()
         self.assertIn(b"the log is not there, and what is here is place 2", said)
+
+
+# What a log does, and who may have it do that.
+FUNCTIONS = "SELECT proname, pg_get_functiondef(oid), proacl::text, proowner FROM pg_proc WHERE pronamespace = 'sfstore'::regnamespace ORDER BY 1"
+DROP = "SELECT sfstore.drop_before(%s, 1, '0')"
 
 
 class Cuts(ReplicaCase):
@@ -613,6 +633,54 @@ class Cuts(ReplicaCase):
         self.assertEqual(self.file(cleo, at), files[0])
         at, files = self.cut(ann, ben, cleo)
         self.assertEqual(len(set(files)), 1)
+
+    def test_a_drop_waits_for_nobody_who_has_put_a_sum_down_and_goes_on(self):
+        [ann] = self.town("ann")
+        first, _ = self.cut(ann)
+        at, _ = self.cut(ann)
+        other = Link(self.pair.primary.dsn("ben", self.database))
+        self.addCleanup(other.close)
+        other.ask("BEGIN")
+        other.ask("SELECT sfstore.put_sum(%s, repeat('0', 64))", (first,))
+        self.assertEqual(owning.drop_before(self.owner, at, 1, "0", 5), at)
+        self.assertEqual(ann.run("add w POINT (1 1)"), "ok 1")
+        other.ask("COMMIT")
+        self.assertEqual([cut.at for cut in owning.state(self.owner).cuts], [first, at])
+        self.assertEqual(owning.drop_before(self.owner, at, 1, "0", 5), 0)
+        self.assertEqual([cut.at for cut in owning.state(self.owner).cuts], [at])
+
+    def test_what_is_dropped_is_counted_behind_the_lock(self):
+        [ann] = self.town("ann")
+        for level, wanted in (("READ COMMITTED", "stand 0 different files of 0 replicas"), ("REPEATABLE READ", "due to concurrent update")):
+            with self.subTest(level=level):
+                first, _ = self.cut(ann)
+                at, _ = self.cut(ann)
+                self.assertIn(wanted, self.refused_behind(level, at, first))
+
+    def refused_behind(self, level, at, first):
+        """What is told to who drops up to a first cut, and has waited for somebody who drops up to a later one."""
+        one, other = (Link(self.owner) for _ in range(2))
+        self.addCleanup(one.close)
+        self.addCleanup(other.close)
+        one.ask("BEGIN")
+        other.ask(f"BEGIN ISOLATION LEVEL {level}")
+        # Its snapshot is of before.
+        other.ask("SELECT 1")
+        one.ask(DROP, (at,))
+        told = []
+
+        def late():
+            try:
+                told.append(f"{other.ask(DROP, (first,), seconds=20.0)[0][0]} dropped")
+            except (LinkLost, LogRefused) as error:
+                told.append(str(error))
+
+        thread = threading.Thread(target=late)
+        thread.start()
+        self.wait_for([thread])
+        one.ask("COMMIT")
+        thread.join()
+        return told[0]
 
     def test_one_that_was_away_while_all_was_dropped(self):
         """It answers nothing by what is not so any more, though nobody has written since."""

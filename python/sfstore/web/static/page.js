@@ -20,7 +20,7 @@ import { Selection } from "./selection.js";
 import { swatch } from "./styles.js";
 import { Tabs } from "./tabs.js";
 import { ValueTable } from "./table.js";
-import { call, CallFailed, listen } from "./server.js";
+import { call, CallFailed, listen, speakOver } from "./server.js";
 import { followPointers, View } from "./view.js";
 
 // Edits of these change nothing that is drawn.
@@ -119,7 +119,7 @@ class App {
   /** Takes the layers of the store and its grid. Where these are others than before, what was begun is given up, and the whole map shown. */
 
   async #readMap(extent) {
-    const [found, { styles, fault }] = await Promise.all([call("map", { extent }), call("styles", {})]);
+    const [found, { styles, fault }] = await Promise.all([call("map", { extent, store: undefined }), call("styles", {})]);
     // What was asked before may be answered behind what was asked later.
     if (found.content < this.content) return this.#readMap(extent);
     const shown = { store: found.store, grid: found.grid_mark };
@@ -127,6 +127,7 @@ class App {
     const isOther = !isFirst && (shown.store !== this.shown.store || shown.grid !== this.shown.grid);
     if (isOther && !extent) return this.#readMap(true);
     this.content = found.content;
+    speakOver(found.store);
     if (isOther) this.#letGo();
     if (isFirst || isOther) this.shown = shown;
     this.layerEditor.setFault(fault);

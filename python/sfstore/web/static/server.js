@@ -6,6 +6,14 @@ const AGAIN_MILLISECONDS = 2_000;
 // Sent in a header, which a browser adds to nothing by itself: no other page can send it.
 let key = "";
 
+// The number of the store that the page shows: a call of another one is refused.
+let over;
+
+/** Has every further call be meant for a store, but for those that name one themselves. */
+export function speakOver(store) {
+  over = store;
+}
+
 /** Has every further call speak for the person whose key this is, and gives the key before. */
 export function speakFor(given) {
   const before = key;
@@ -23,7 +31,7 @@ export class CallFailed extends Error {
 
 /** Has the server carry out a call, and gives its answer. */
 export async function call(path, body) {
-  const response = await asked(path, { method: "POST", body: JSON.stringify(body) });
+  const response = await asked(path, { method: "POST", body: JSON.stringify({ store: over, ...body }) });
   let answer;
   try {
     answer = await response.json();
