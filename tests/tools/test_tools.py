@@ -22,6 +22,7 @@ from sfstore.mapunits import MapUnits  # noqa: E402
 SCRIPTS = [
     "bench/calls.py",
     "bench/counted.py",
+    "bench/growing.py",
     "bench/kept.py",
     "bench/planted.py",
     "bench/plants.py",
