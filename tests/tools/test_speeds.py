@@ -267,6 +267,21 @@ def border_squares(kind: str) -> list[str]:
     return [f"layer add a {kind}", *lines, "layer add b polygon", *[f"add b {town(IN_TOWN, False)}"] * 10]
 
 
+def round_ring(count: int, is_twisted: bool) -> str:
+    """A round ring of so many edges; of a twisted one two of the last edges cross."""
+    turns = [2 * math.pi * k / count for k in range(count)]
+    places = [(round(1_000_000 * math.cos(turn)), round(1_000_000 * math.sin(turn))) for turn in turns]
+    if is_twisted:
+        places[-3], places[-2] = places[-2], places[-3]
+    return "POLYGON ((" + ", ".join(f"{x} {y}" for x, y in [*places, places[0]]) + "))"
+
+
+def slanted_lines(count: int, higher: int) -> str:
+    """So many lines side by side, whose boxes all meet, so much higher."""
+    lines = (f"(-500000 {97 * k + higher - 200_000}, 500000 {97 * k + higher})" for k in range(count))
+    return f"MULTILINESTRING ({', '.join(lines)})"
+
+
 class Speeds(unittest.TestCase):
     def check(self, claim: Claim) -> None:
         found = ratio(claim)
@@ -444,6 +459,18 @@ class Speeds(unittest.TestCase):
         known = [f"add a {text('POLYGON', level_edge())}"] * 20
         asked = [f"relate a 1 {text('POLYGON', across_it())}"] * 50
         self.check(Claim(["layer add a polygon", *known], asked, 1.5, b"212101212", 5))
+
+    def test_lines_beside_many_others_are_told_by_their_edges(self) -> None:
+        """Refuses a look for the end of each line in all others, and a walk, where no edges share a point."""
+        known = [f"add a {slanted_lines(1_000, 0)}"] * 20
+        asked = [f"relate a 1 {slanted_lines(1_000, 40)}"] * 10
+        self.check(Claim(["layer add a multilinestring", *known], asked, 3.0, b"FF1FF0102", 4))
+
+    def test_where_a_ring_meets_itself_is_told_by_boxes(self) -> None:
+        """Refuses a look at all pairs of its edges."""
+        known = [f"add a {round_ring(4_000, False)}"] * 20
+        asked = [*[f"check a {round_ring(4_000, True)}"] * 20, "layers"]
+        self.check(Claim(["layer add a polygon", *known], asked, 1.0, b"a polygon", 5))
 
     def test_boxes_that_are_apart_are_not_walked(self) -> None:
         """Refuses walks over all edges where the boxes tell the matrix."""
