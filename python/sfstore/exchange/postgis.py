@@ -9,14 +9,16 @@ from __future__ import annotations
 
 import contextlib
 import datetime
+import hashlib
 import re
 import struct
+from collections import Counter
 from collections.abc import Callable, Iterator, Sequence
 from decimal import Decimal
 from typing import Any, NamedTuple
 
 from sfstore.exchange import ogr
-from sfstore.exchange.columns import DATE, DATE_TIME, INTEGER, INTEGER_64, REAL, Sort, values_of
+from sfstore.exchange.columns import DATE, DATE_TIME, INTEGER, INTEGER_64, REAL, STRING, Sort, values_of
 from sfstore.exchange.formats import Part
 from sfstore.exchange.grid import Grid
 from sfstore.exchange.moments import day_of, moment_of
@@ -145,6 +147,8 @@ class _Table(NamedTuple):
     """The table that is there."""
     columns: dict[str, _Known]
     """The columns that it has."""
+    keys: list[str]
+    """Those of them that name each row by themselves, the primary key first."""
 
 
 class _Export:
@@ -178,6 +182,7 @@ class _Export:
         self._run("SET CONSTRAINTS ALL IMMEDIATE")
         for export in exports:
             export.read_back()
+            export.tell_others()
         # A sequence does not go back with the transaction, so it comes last.
         for export in exports:
             export.count_on()
@@ -264,10 +269,10 @@ class _Export:
         schema, name = self._place(part.name, schema)
         oid = self._free(schema, name)
         if oid is None:
-            return _Table(schema, name, None, {})
+            return _Table(schema, name, None, {}, [])
         self.run("LOCK TABLE ONLY {} IN ACCESS EXCLUSIVE MODE", self.quoted(schema, name))
         self._check_others(oid, name)
-        table = _Table(schema, name, oid, self._columns(oid))
+        table = _Table(schema, name, oid, self._columns(oid), self._keys(oid))
         _check_columns(part, table)
         self._check_left_out(part, table)
         return table
@@ -352,10 +357,11 @@ class _Export:
     def _check_left_out(self, part: Part, table: _Table) -> None:
         """`ogr.ExchangeError` where a table has what no store has, or what its import has left out: it would be lost."""
         self._check_flat(part, table)
+        self._check_named(part, table)
         origin = part.origin
         if origin.identifier_column not in table.columns:
+            # The rows of those are looked for when all rows are.
             return
-        self._check_named(part, table)
         lost = [key for key, *_ in self._rows_of(table, origin.identifier_column, [], origin.left_out)]
         if lost:
             raise _left_out(part, f"features that its import has left out: {several(lost)}")
@@ -424,6 +430,16 @@ class _Export:
             oid,
         )
         return {name: _Known(*rest) for name, *rest in rows}
+
+    def _keys(self, oid: int) -> list[str]:
+        """The columns of a table that name each row by themselves, whatever their type."""
+        rows = self.rows(
+            "SELECT attname FROM pg_catalog.pg_index JOIN pg_catalog.pg_attribute ON attrelid = indrelid AND attnum = indkey[0] "
+            "WHERE indrelid = %s::oid AND indisunique AND indisvalid AND indnkeyatts = 1 AND indpred IS NULL AND attnotnull "
+            "ORDER BY indisprimary DESC, attnum",
+            oid,
+        )
+        return [str(name) for [name] in rows]
 
     def _srid(self, crs: Crs | None) -> int:
         """PostGIS' number of a reference system, which is added where PostGIS does not know it."""
@@ -500,6 +516,9 @@ class _LayerExport:
         self._other_values: dict[str, list[str]] = {}
         self._padded = {name for name, column in table.columns.items() if column.is_padded}
         self._unzoned = {name for name, column in table.columns.items() if column.is_unzoned}
+        origin = part.origin
+        self._unnamed = origin.identifier_column not in table.columns and bool(origin.left_out or origin.without)
+        self._before: Counter[bytes] | None = None
 
     def write(self) -> None:
         """Makes the table or empties it, and fills it."""
@@ -533,7 +552,7 @@ class _LayerExport:
 
     def _empty(self) -> None:
         """Takes the rows away, and adds the columns that are missing."""
-        self._tell_gone()
+        self._look_for_gone()
         self._export.run("TRUNCATE ONLY {}", self._name)
         if self._part.identifier_column not in self._table.columns:
             # The table may have a key of its own.
@@ -542,18 +561,79 @@ class _LayerExport:
             if column.name not in self._table.columns:
                 self._export.run("ALTER TABLE {} ADD COLUMN {}", self._name, self._definition(column))
 
-    def _tell_gone(self) -> None:
-        """Says which rows the store has not: they were deleted there, or somebody else has added them."""
-        export, part = self._export, self._part
-        keys = [name for name in (part.origin.identifier_column, part.identifier_column) if name in self._table.columns]
-        if not keys:
+    def _look_for_gone(self) -> None:
+        """Says which rows the store has not: they were deleted there, or somebody else has added them.
+
+        `ogr.ExchangeError` where they may be those that the import has left out. Where no key names rows, `tell_others` looks for them.
+        """
+        key, shown = self._key(), ogr.printable(self._table.name)
+        if not key:
+            self._before = Counter(self._wholes())
             return
-        known = {key for key, _ in keyed(part, keys[0])}
-        quoted = export.quoted(keys[0])
-        with export.reading(export.format("SELECT {}::text FROM {} AS t ORDER BY t.{}", quoted, self._name, quoted)) as rows:
-            gone = [str(key) for [key] in rows if key not in known]
+        gone, emptied = self._strange_rows(key)
+        if self._unnamed and gone:
+            raise _left_out(self._part, f"rows that the store has not, and may be those that its import has left out: {several(gone)}")
+        if self._unnamed and emptied:
+            raise _left_out(self._part, f"values where the store has none, and its import has left out some: {several(emptied)}")
         if gone:
-            export.say(f"the table {ogr.printable(self._table.name)} {gone_words(gone)}")
+            self._export.say(f"the table {shown} {gone_words(gone)}")
+
+    def _key(self) -> str:
+        """The column that names the rows of the table and the features of the store; empty where there is none.
+
+        It is that of the import, or one that the store has too, or that of the store's identifiers.
+        """
+        part, table = self._part, self._table
+        # Of other types two texts may be one value.
+        plain = {column.name for column in self._columns if column.sort.type in (INTEGER, INTEGER_64, STRING) and column.sort.subtype != "Boolean"}
+        shared = [name for name in table.keys if name in plain and not table.columns[name].is_padded]
+        keys = [part.origin.identifier_column, *shared, part.identifier_column]
+        return next((name for name in keys if name in table.columns), "")
+
+    def _strange_rows(self, key: str) -> tuple[list[str], list[str]]:
+        """The keys of the rows that the store has not, and those of a value where the store has none, each with its column."""
+        export = self._export
+        # What the database computes is not lost.
+        columns = [each for each in self._columns if each.name in self._table.columns and each.name not in self._computed]
+        known = dict(keyed(self._part, key))
+        texts = export.plain(", ").join(export.format("t.{}::text", export.quoted(name)) for name in (key, *(each.name for each in columns)))
+        gone, emptied = [], []
+        with export.reading(export.format("SELECT {} FROM {} AS t ORDER BY t.{}", texts, self._name, export.quoted(key))) as rows:
+            for name, *found in rows:
+                values = known.get(str(name))
+                if values is None:
+                    gone.append(str(name))
+                    continue
+                lost = [each.name for each, text in zip(columns, found) if text is not None and values.get(each.number) is None]
+                emptied += [f"{column} of {name}" for column in lost]
+        return gone, emptied
+
+    def _wholes(self) -> Iterator[bytes]:
+        """A digest of all that each row of the table has, but of what the store or the database gives it."""
+        export, part = self._export, self._part
+        texts = [export.format("{}::text", export.quoted(name)) for name in self._table.columns if name not in (*self._computed, part.identifier_column)]
+        with export.reading(export.format("SELECT {} FROM {}", export.plain(", ").join(texts), self._name)) as rows:
+            for row in rows:
+                yield hashlib.blake2b(repr(row).encode("utf-8", "surrogatepass"), digest_size=16).digest()
+
+    def tell_others(self) -> None:
+        """Says how many rows of a table without a key are not in the store as they stood there.
+
+        `ogr.ExchangeError` where they may be those that the import has left out.
+        """
+        if self._before is None:
+            return
+        self._before.subtract(self._wholes())
+        count = sum(number for number in self._before.values() if number > 0)
+        what = f"{count:,} rows that are" if count > 1 else "1 row that is"
+        what += " not in the store as in the table, and no key names rows of the table"
+        if count and self._unnamed:
+            raise ogr.ExchangeError(
+                f"the table {ogr.printable(self._part.name)} has {what}: they may be those that an import has left out, as a whole or in part. "
+                "They would be lost: empty the table first, or name another database or schema"
+            )
+        if count:
+            self._export.say(f"the table {ogr.printable(self._table.name)} has {what}: they are removed")
 
     def _rows(self) -> Iterator[bytes]:
         """The features in the text format of COPY, some at a time."""

@@ -374,6 +374,46 @@ class Others(DatabaseCase):
         self.ask("DELETE FROM w WHERE id = 2")
         self.written(self.store, self.target, "--overwrite")
 
+    def keyless(self, key, rows="(1, 'a', 'POINT(1 2)'), (2, 'b', 'POINT(3 4)')"):
+        """A table that no whole numbers name the rows of, in a store."""
+        self.ask(f"DROP TABLE IF EXISTS w; CREATE TABLE w ({key}n int, t text, geom geometry); INSERT INTO w (n, t, geom) VALUES {rows}")
+        return bring_in(self.target, self.store, *PLAIN[:4], "--overwrite")
+
+    def test_rows_of_a_table_without_a_key_of_whole_numbers_that_its_import_has_left_out_stay(self):
+        rows = "(1, 'a', 'POINT(1 2)'), (2, 'b', 'POINT(1.5 2)'), (3, 'c', 'CIRCULARSTRING(0 0, 1 1, 2 0)'), (4, 'd', NULL)"
+        for key in ("", "id uuid PRIMARY KEY DEFAULT gen_random_uuid(), ", "id text UNIQUE NOT NULL DEFAULT gen_random_uuid(), ", "x int, y int, UNIQUE (x, y), "):
+            with self.subTest(key):
+                status, out, _ = self.keyless(key, rows)
+                self.assertIn("w: 4 features read, 1 taken", out)
+                before = self.ask("SELECT w::text FROM w ORDER BY n")
+                err = self.refused(self.store, self.target, "--overwrite")
+                self.assertIn("the table w has 3 rows that are not in the store as in the table" if "id" not in key else "may be those that its import has left out: ", err)
+                self.assertEqual(self.ask("SELECT w::text FROM w ORDER BY n"), before)
+                self.ask("DELETE FROM w WHERE n > 1")
+                self.assertNotIn("removed", self.written(self.store, self.target, "--overwrite"))
+                with Store(self.store, journal=True, program=PROGRAM) as store:
+                    store.set("w", 1, "n", 7)
+                self.written(self.store, self.target, "--overwrite")
+                self.assertEqual(self.ask("SELECT n, t FROM w"), [(7, "a")])
+
+    def test_values_of_a_table_without_a_key_of_whole_numbers_that_its_import_has_left_out_stay(self):
+        for key in ("", "id uuid PRIMARY KEY DEFAULT gen_random_uuid(), "):
+            self.ask(f"DROP TABLE IF EXISTS w; CREATE TABLE w ({key}x numeric, geom geometry(Point)); INSERT INTO w (x, geom) VALUES (1e-30, 'POINT(1 2)'), (2, 'POINT(1 3)')")
+            self.assertEqual(bring_in(self.target, self.store, *PLAIN[:4], "--overwrite")[0], 1)
+            err = self.refused(self.store, self.target, "--overwrite")
+            self.assertIn("has values where the store has none, and its import has left out some: x of " if key else "has 1 row that is not in the store as in the table", err)
+            self.assertEqual(self.ask("SELECT count(x) FROM w"), [(2,)])
+
+    def test_rows_of_a_table_without_a_key_of_whole_numbers_that_others_have_added_are_told(self):
+        for key in ("", "id uuid PRIMARY KEY DEFAULT gen_random_uuid(), "):
+            self.assertEqual(self.keyless(key)[0], 0)
+            # Two rows may be equal.
+            self.ask("INSERT INTO w (n, t, geom) VALUES (1, 'a', 'POINT(1 2)'), (9, 'new', 'POINT(9 9)')")
+            err = self.written(self.store, self.target, "--overwrite")
+            self.assertIn("has 2 rows that the store has not, and they are removed: " if key else "has 2 rows that are not in the store as in the table, and no key names rows of the table: they are removed\n", err)
+            self.assertEqual(self.ask("SELECT n FROM w ORDER BY n"), [(1,), (2,)])
+            self.assertNotIn("removed", self.written(self.store, self.target, "--overwrite"))
+
     def test_a_table_is_not_replaced_where_what_was_left_out_has_no_room_in_the_side_car(self):
         self.ask("CREATE TABLE w (id int PRIMARY KEY, geom geometry(Point)); "
                  "INSERT INTO w VALUES (1, 'POINT(1 2)'), (2, 'POINT(1.5 2)'), (3, 'POINT(1.5 3)')")
