@@ -125,6 +125,8 @@ class Addition:
     without: list[int] = field(default_factory=list)
     left_columns: list[str] = field(default_factory=list)
     cut: bool = False
+    identifier_column: str = ""
+    """The column of the identifiers in the source. Empty where it has none."""
 
     def and_(self, other: Addition) -> Addition:
         """What was left out of the same source twice."""
@@ -156,9 +158,9 @@ class Sidecar:
         return replace(self, additions=list(known.values())[-_ADDITIONS_MAX:])
 
 
-def _key(addition: Addition) -> tuple[str, str, str]:
-    """The source of an addition, and the layer that it was added to."""
-    return addition.name, addition.source, addition.source_name
+def _key(addition: Addition) -> tuple[str, str, str, str]:
+    """The source of an addition with its key, and the layer that it was added to."""
+    return addition.name, addition.source, addition.source_name, addition.identifier_column
 
 
 def path_of(store: str) -> str:

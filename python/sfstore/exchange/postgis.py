@@ -25,7 +25,7 @@ from sfstore.exchange.moments import day_of, moment_of
 from sfstore.exchange.placing import uninterrupted
 from sfstore.exchange.replacing import gone_words, keyed, several
 from sfstore.geometry import read_wkb, write_wkb
-from sfstore.sidecar import Addition, Crs, Sidecar
+from sfstore.sidecar import Addition, Crs, LayerOrigin, Sidecar
 from sfstore.storefile import FileFeature
 
 __all__ = ["write_database"]
@@ -358,14 +358,19 @@ class _Export:
         """`ogr.ExchangeError` where a table has what no store has, or what its import has left out: it would be lost."""
         self._check_flat(part, table)
         self._check_named(part, table)
+        # The rows of what has no key here are looked for when all rows are.
+        for addition in self.additions_of(part):
+            if addition.identifier_column in table.columns:
+                self._check_addition(part, table, addition)
+        if part.origin.identifier_column in table.columns:
+            self._check_import(part, table)
+
+    def _check_import(self, part: Part, table: _Table) -> None:
+        """`ogr.ExchangeError` where a table has features, or values of them, that its import has left out."""
         origin = part.origin
-        if origin.identifier_column not in table.columns:
-            # The rows of those are looked for when all rows are.
-            return
         lost = [key for key, *_ in self._rows_of(table, origin.identifier_column, [], origin.left_out)]
         if lost:
             raise _left_out(part, f"features that its import has left out: {several(lost)}")
-        self._check_additions(part, table)
         columns = [_Column(number, part.columns[number], sort) for number, sort in part.sorts.items()]
         # What the database computes is not lost.
         columns = [column for column in columns if column.name in table.columns and not table.columns[column.name].is_computed]
@@ -379,24 +384,24 @@ class _Export:
 
     def _check_named(self, part: Part, table: _Table) -> None:
         """`ogr.ExchangeError` where the side-car does not name all that was left out of a table, and the table has rows: nobody knows which they are."""
-        is_cut = part.origin.cut or any(each.cut for each in self._additions_of(part))
+        is_cut = part.origin.cut or any(each.cut for each in self.additions_of(part))
         if is_cut and self._run(self.format("SELECT 1 FROM {} LIMIT 1", self.quoted(table.schema, table.name))).fetchall():
             raise ogr.ExchangeError(
                 f"the table {ogr.printable(part.name)} may have features, or values of them, that an import has left out: they are more "
                 "than the side-car has room to name. They would be lost: empty the table first, or name another database or schema"
             )
 
-    def _additions_of(self, part: Part) -> list[Addition]:
-        """What was left out of a layer's table when it was added to the layer."""
-        return [each for each in self._additions if (each.name, each.source, each.source_name) == (part.layer.name, "", part.name)]
+    def additions_of(self, part: Part) -> list[Addition]:
+        """What was left out of a layer's table when it was added to a layer, whichever that was: what is lost, the table has."""
+        return [each for each in self._additions if (each.source, each.source_name) == ("", part.name)]
 
-    def _check_additions(self, part: Part, table: _Table) -> None:
+    def _check_addition(self, part: Part, table: _Table, addition: Addition) -> None:
         """`ogr.ExchangeError` where a table has features that an addition of it has left out, as a whole or values of them.
 
         What it has taken has other keys in the store.
         """
-        wanted = {key for each in self._additions_of(part) for key in (*each.left_out, *each.without)}
-        lost = [key for key, *_ in self._rows_of(table, part.origin.identifier_column, [], sorted(wanted))]
+        wanted = sorted({*addition.left_out, *addition.without})
+        lost = [key for key, *_ in self._rows_of(table, addition.identifier_column, [], wanted)]
         if lost:
             raise _left_out(part, f"features of which an addition has left out all or some values: {several(lost)}")
 
@@ -516,8 +521,9 @@ class _LayerExport:
         self._other_values: dict[str, list[str]] = {}
         self._padded = {name for name, column in table.columns.items() if column.is_padded}
         self._unzoned = {name for name, column in table.columns.items() if column.is_unzoned}
-        origin = part.origin
-        self._unnamed = origin.identifier_column not in table.columns and bool(origin.left_out or origin.without)
+        self._additions = export.additions_of(part)
+        lefts: list[LayerOrigin | Addition] = [part.origin, *self._additions]
+        self._unnamed = any(each.identifier_column not in table.columns and (each.left_out or each.without) for each in lefts)
         self._before: Counter[bytes] | None = None
 
     def write(self) -> None:
@@ -564,7 +570,7 @@ class _LayerExport:
     def _look_for_gone(self) -> None:
         """Says which rows the store has not: they were deleted there, or somebody else has added them.
 
-        `ogr.ExchangeError` where they may be those that the import has left out. Where no key names rows, `tell_others` looks for them.
+        `ogr.ExchangeError` where they may be those that an import has left out. Where no key names rows, `tell_others` looks for them.
         """
         key, shown = self._key(), ogr.printable(self._table.name)
         if not key:
@@ -572,22 +578,25 @@ class _LayerExport:
             return
         gone, emptied = self._strange_rows(key)
         if self._unnamed and gone:
-            raise _left_out(self._part, f"rows that the store has not, and may be those that its import has left out: {several(gone)}")
+            raise _left_out(self._part, f"rows that the store has not, and may be those that an import has left out: {several(gone)}")
         if self._unnamed and emptied:
-            raise _left_out(self._part, f"values where the store has none, and its import has left out some: {several(emptied)}")
+            raise _left_out(self._part, f"values where the store has none, and an import has left out some: {several(emptied)}")
         if gone:
             self._export.say(f"the table {shown} {gone_words(gone)}")
 
     def _key(self) -> str:
         """The column that names the rows of the table and the features of the store; empty where there is none.
 
-        It is that of the import, or one that the store has too, or that of the store's identifiers.
+        It is that of the import, or one that the store has too, or that of the store's identifiers. What was added has other identifiers
+        there: where the table had none then, it has those of the store by an export, which has replaced all rows.
         """
         part, table = self._part, self._table
         # Of other types two texts may be one value.
         plain = {column.name for column in self._columns if column.sort.type in (INTEGER, INTEGER_64, STRING) and column.sort.subtype != "Boolean"}
         shared = [name for name in table.keys if name in plain and not table.columns[name].is_padded]
         keys = [part.origin.identifier_column, *shared, part.identifier_column]
+        if self._additions:
+            keys = [*shared, *([] if any(each.identifier_column for each in self._additions) else [part.identifier_column])]
         return next((name for name in keys if name in table.columns), "")
 
     def _strange_rows(self, key: str) -> tuple[list[str], list[str]]:
@@ -617,23 +626,22 @@ class _LayerExport:
                 yield hashlib.blake2b(repr(row).encode("utf-8", "surrogatepass"), digest_size=16).digest()
 
     def tell_others(self) -> None:
-        """Says how many rows of a table without a key are not in the store as they stood there.
+        """Says how many rows of a table are not in the store as they stood there, where no key says which.
 
-        `ogr.ExchangeError` where they may be those that the import has left out.
+        `ogr.ExchangeError` where they may be those that an import has left out.
         """
         if self._before is None:
             return
         self._before.subtract(self._wholes())
         count = sum(number for number in self._before.values() if number > 0)
-        what = f"{count:,} rows that are" if count > 1 else "1 row that is"
-        what += " not in the store as in the table, and no key names rows of the table"
+        what = f"{count:,} rows that are not in the store as in the table" if count > 1 else "1 row that is not in the store as in the table"
         if count and self._unnamed:
             raise ogr.ExchangeError(
-                f"the table {ogr.printable(self._part.name)} has {what}: they may be those that an import has left out, as a whole or in part. "
-                "They would be lost: empty the table first, or name another database or schema"
+                f"the table {ogr.printable(self._part.name)} has {what}, and may be what an import has left out. It would be lost: "
+                "empty the table first, or name another database or schema"
             )
         if count:
-            self._export.say(f"the table {ogr.printable(self._table.name)} has {what}: they are removed")
+            self._export.say(f"the table {ogr.printable(self._table.name)} has {what}, of others or edited in the store: removed")
 
     def _rows(self) -> Iterator[bytes]:
         """The features in the text format of COPY, some at a time."""

@@ -374,6 +374,41 @@ class Others(DatabaseCase):
         self.ask("DELETE FROM w WHERE id = 2")
         self.written(self.store, self.target, "--overwrite")
 
+    def added(self, store, status=1):
+        """A store with a grid, to which the database was added."""
+        self.written(store, self.folder / "one.gpkg", *PLAIN, *(["--overwrite"] if (self.folder / "one.gpkg").exists() else []))
+        self.assertEqual(bring_in(self.target, store, "--add")[0], status)
+        Store(store, journal=True, program=PROGRAM).close()
+        return store
+
+    def test_rows_that_an_addition_to_a_layer_made_by_hand_has_left_out_stay(self):
+        for name, key in (("ogc_fid", "ogc_fid serial PRIMARY KEY, "), ("none", "")):
+            self.ask(f"DROP TABLE IF EXISTS wells; CREATE TABLE wells ({key}depth int, wkb_geometry geometry); "
+                     "INSERT INTO wells (depth, wkb_geometry) VALUES (1, 'SRID=25832;POINT(1 2)'), (2, 'SRID=25832;POINT(1.5 3)')")
+            before = self.ask("SELECT wells::text FROM wells ORDER BY depth")
+            # The store has a well 1 of its own, and the row 1 is 2 there.
+            store = self.added(self.wells())
+            err = self.refused(store, self.target, "--overwrite")
+            self.assertIn("has features of which an addition has left out all or some values: 2. " if key else
+                          "has 1 row that is not in the store as in the table, and may be what an import has left out. ", err)
+            self.assertEqual(self.ask("SELECT wells::text FROM wells ORDER BY depth"), before, name)
+            self.ask("DELETE FROM wells WHERE depth = 2; INSERT INTO wells (depth, wkb_geometry) VALUES (9, 'SRID=25832;POINT(9 9)')")
+            if key:
+                # It has the number of another one of the store.
+                self.ask("DELETE FROM wells WHERE depth = 1; UPDATE wells SET ogc_fid = 1 WHERE depth = 9")
+                err = self.written(store, self.target, "--overwrite")
+                self.assertIn("the table wells has 1 row that is not in the store as in the table, of others or edited in the store: removed\n", err)
+            else:
+                self.refused(store, self.target, "--overwrite")
+                self.ask("DELETE FROM wells WHERE depth = 9")
+                self.written(store, self.target, "--overwrite")
+                # From now on it has keys.
+                self.ask("DELETE FROM wells WHERE ogc_fid = 2")
+                with Store(store, journal=True, program=PROGRAM) as opened:
+                    opened.set("wells", 1, "depth", 8)
+                self.assertNotIn("wells has", self.written(store, self.target, "--overwrite"))
+            self.assertEqual(self.ask("SELECT count(*) FROM wells"), [(2,)])
+
     def keyless(self, key, rows="(1, 'a', 'POINT(1 2)'), (2, 'b', 'POINT(3 4)')"):
         """A table that no whole numbers name the rows of, in a store."""
         self.ask(f"DROP TABLE IF EXISTS w; CREATE TABLE w ({key}n int, t text, geom geometry); INSERT INTO w (n, t, geom) VALUES {rows}")
@@ -387,7 +422,7 @@ class Others(DatabaseCase):
                 self.assertIn("w: 4 features read, 1 taken", out)
                 before = self.ask("SELECT w::text FROM w ORDER BY n")
                 err = self.refused(self.store, self.target, "--overwrite")
-                self.assertIn("the table w has 3 rows that are not in the store as in the table" if "id" not in key else "may be those that its import has left out: ", err)
+                self.assertIn("the table w has 3 rows that are not in the store as in the table" if "id" not in key else "may be those that an import has left out: ", err)
                 self.assertEqual(self.ask("SELECT w::text FROM w ORDER BY n"), before)
                 self.ask("DELETE FROM w WHERE n > 1")
                 self.assertNotIn("removed", self.written(self.store, self.target, "--overwrite"))
@@ -401,7 +436,7 @@ class Others(DatabaseCase):
             self.ask(f"DROP TABLE IF EXISTS w; CREATE TABLE w ({key}x numeric, geom geometry(Point)); INSERT INTO w (x, geom) VALUES (1e-30, 'POINT(1 2)'), (2, 'POINT(1 3)')")
             self.assertEqual(bring_in(self.target, self.store, *PLAIN[:4], "--overwrite")[0], 1)
             err = self.refused(self.store, self.target, "--overwrite")
-            self.assertIn("has values where the store has none, and its import has left out some: x of " if key else "has 1 row that is not in the store as in the table", err)
+            self.assertIn("has values where the store has none, and an import has left out some: x of " if key else "has 1 row that is not in the store as in the table", err)
             self.assertEqual(self.ask("SELECT count(x) FROM w"), [(2,)])
 
     def test_rows_of_a_table_without_a_key_of_whole_numbers_that_others_have_added_are_told(self):
@@ -410,7 +445,7 @@ class Others(DatabaseCase):
             # Two rows may be equal.
             self.ask("INSERT INTO w (n, t, geom) VALUES (1, 'a', 'POINT(1 2)'), (9, 'new', 'POINT(9 9)')")
             err = self.written(self.store, self.target, "--overwrite")
-            self.assertIn("has 2 rows that the store has not, and they are removed: " if key else "has 2 rows that are not in the store as in the table, and no key names rows of the table: they are removed\n", err)
+            self.assertIn("has 2 rows that the store has not, and they are removed: " if key else "has 2 rows that are not in the store as in the table, of others or edited in the store: removed\n", err)
             self.assertEqual(self.ask("SELECT n FROM w ORDER BY n"), [(1,), (2,)])
             self.assertNotIn("removed", self.written(self.store, self.target, "--overwrite"))
 
