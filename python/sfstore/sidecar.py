@@ -45,7 +45,7 @@ _FORMAT = "sfstore side-car 1"
 # How many features it names in all: some kilobytes of ranges would be gigabytes of numbers.
 _NAMED_MAX = 20 * LEFT_MAX
 # What a layer has of features that were left out, which is written as ranges: 1-7 9.
-_LEFT = ("left_out", "without")
+_LEFT = ("left_out", "without", "parted")
 _RANGE = re.compile("(-?[0-9]{1,20})(?:-(-?[0-9]{1,20}))?")
 # Why a file that is there can't be read just now, though it may be the next time.
 _PASSING = {errno.EAGAIN, errno.EINTR, errno.EIO, errno.EMFILE, errno.ENFILE, errno.ENOMEM, errno.ENOSPC, errno.ESTALE}
@@ -107,7 +107,9 @@ class LayerOrigin:
     left_columns: list[str] = field(default_factory=list)
     """What it has left out of all features: columns, and ``Z or M``."""
     cut: bool = False
-    """Whether there are more such features than these two name."""
+    """Whether there are more such features than these name."""
+    parted: list[int] = field(default_factory=list)
+    """The features that it has taken without some members of their collections, in the same way."""
 
 
 @dataclass(frozen=True)
@@ -127,14 +129,20 @@ class Addition:
     cut: bool = False
     identifier_column: str = ""
     """The column of the identifiers in the source. Empty where it has none."""
+    parted: list[int] = field(default_factory=list)
+
+    @property
+    def has_losses(self) -> bool:
+        """Whether anything was left out."""
+        return bool(self.cut or self.left_out or self.without or self.parted or self.left_columns)
 
     def and_(self, other: Addition) -> Addition:
         """What was left out of the same source twice."""
-        left_out = sorted({*self.left_out, *other.left_out})
-        without = sorted({*self.without, *other.without})
+        named = {name: sorted({*getattr(self, name), *getattr(other, name)}) for name in _LEFT}
         columns = list(dict.fromkeys([*self.left_columns, *other.left_columns]))
-        cut = self.cut or other.cut or max(len(left_out), len(without)) > LEFT_MAX
-        return replace(self, left_out=left_out[:LEFT_MAX], without=without[:LEFT_MAX], left_columns=columns, cut=cut)
+        cut = self.cut or other.cut or any(len(each) > LEFT_MAX for each in named.values())
+        first: dict[str, Any] = {name: each[:LEFT_MAX] for name, each in named.items()}
+        return replace(self, left_columns=columns, cut=cut, **first)
 
 
 @dataclass(frozen=True)

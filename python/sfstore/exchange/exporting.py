@@ -161,6 +161,7 @@ def _left_words(left: LayerOrigin | Addition) -> list[str]:
     """What was left out, in words."""
     return [
         *([f"{len(left.left_out)} features"] if left.left_out else []),
+        *([f"parts of {len(left.parted)} features"] if left.parted else []),
         *([f"values of {len(left.without)} features"] if left.without else []),
         *(["further features or values of them, which the side-car has no room to name"] if left.cut else []),
         *([f"all of {ogr.printable(', '.join(left.left_columns))}"] if left.left_columns else []),

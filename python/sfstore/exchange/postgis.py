@@ -371,6 +371,9 @@ class _Export:
         lost = [key for key, *_ in self._rows_of(table, origin.identifier_column, [], origin.left_out)]
         if lost:
             raise _left_out(part, f"features that its import has left out: {several(lost)}")
+        lost = [key for key, *_ in self._rows_of(table, origin.identifier_column, [], origin.parted)]
+        if lost:
+            raise _left_out(part, f"features of whose collections its import has left out members: {several(lost)}")
         columns = [_Column(number, part.columns[number], sort) for number, sort in part.sorts.items()]
         # What the database computes is not lost.
         columns = [column for column in columns if column.name in table.columns and not table.columns[column.name].is_computed]
@@ -396,14 +399,14 @@ class _Export:
         return [each for each in self._additions if (each.source, each.source_name) == ("", part.name)]
 
     def _check_addition(self, part: Part, table: _Table, addition: Addition) -> None:
-        """`ogr.ExchangeError` where a table has features that an addition of it has left out, as a whole or values of them.
+        """`ogr.ExchangeError` where a table has features that an addition of it has left out, as a whole or in part.
 
         What it has taken has other keys in the store.
         """
-        wanted = sorted({*addition.left_out, *addition.without})
+        wanted = sorted({*addition.left_out, *addition.without, *addition.parted})
         lost = [key for key, *_ in self._rows_of(table, addition.identifier_column, [], wanted)]
         if lost:
-            raise _left_out(part, f"features of which an addition has left out all or some values: {several(lost)}")
+            raise _left_out(part, f"features that an addition has left out, as a whole or in part: {several(lost)}")
 
     def _check_flat(self, part: Part, table: _Table) -> None:
         """`ogr.ExchangeError` where geometries of a table have Z or M."""
@@ -523,7 +526,9 @@ class _LayerExport:
         self._unzoned = {name for name, column in table.columns.items() if column.is_unzoned}
         self._additions = export.additions_of(part)
         lefts: list[LayerOrigin | Addition] = [part.origin, *self._additions]
-        self._unnamed = any(each.identifier_column not in table.columns and (each.left_out or each.without) for each in lefts)
+        unnamed = [each for each in lefts if each.identifier_column not in table.columns]
+        self._unnamed = any(each.left_out or each.without or each.parted for each in unnamed)
+        self._has_unnamed_parts = any(each.parted for each in unnamed)
         self._before: Counter[bytes] | None = None
 
     def write(self) -> None:
@@ -581,8 +586,19 @@ class _LayerExport:
             raise _left_out(self._part, f"rows that the store has not, and may be those that an import has left out: {several(gone)}")
         if self._unnamed and emptied:
             raise _left_out(self._part, f"values where the store has none, and an import has left out some: {several(emptied)}")
+        if self._has_unnamed_parts and self._collections():
+            raise _left_out(self._part, f"{self._collections():,} collections, and an import has left out members of some")
         if gone:
             self._export.say(f"the table {shown} {gone_words(gone)}")
+
+    def _collections(self) -> int:
+        """How many geometries of the table are collections, as none of the store are."""
+        export = self._export
+        shape = export.format("{}::{}", export.quoted(self._part.geometry_column), export.of_postgis("geometry"))
+        asked = export.format("SELECT count(*) FROM {} WHERE {}({}) = 'GEOMETRYCOLLECTION'", self._name, export.of_postgis("geometrytype"), shape)
+        with export.reading(asked) as rows:
+            [[count]] = rows
+        return int(count)
 
     def _key(self) -> str:
         """The column that names the rows of the table and the features of the store; empty where there is none.

@@ -369,10 +369,36 @@ class Others(DatabaseCase):
         self.assertEqual(bring_in(self.target, self.store, "--add")[0], 1)
         Store(self.store, journal=True, program=PROGRAM).close()
         err = self.refused(self.store, self.target, "--overwrite")
-        self.assertIn("the table w has features of which an addition has left out all or some values: 2. They would be lost", err)
+        self.assertIn("the table w has features that an addition has left out, as a whole or in part: 2. They would be lost", err)
         self.assertEqual(self.ask("SELECT * FROM w ORDER BY id"), before)
         self.ask("DELETE FROM w WHERE id = 2")
         self.written(self.store, self.target, "--overwrite")
+
+    def test_members_of_collections_that_an_import_has_left_out_stay(self):
+        rows = ("INSERT INTO w (n, geom) VALUES (1, 'GEOMETRYCOLLECTION(POINT(1 1), POINT(1.5 2))'), (2, 'POINT(2 2)'), "
+                "(3, 'GEOMETRYCOLLECTION(POINT(1 1), LINESTRING(3 3, 3 3))')")
+        for key, words in (("id serial PRIMARY KEY, ", "has features of whose collections its import has left out members: 1, 3. "),
+                           ("", "has 2 rows that are not in the store as in the table, and may be what an import has left out"),
+                           ("id text UNIQUE NOT NULL DEFAULT gen_random_uuid(), ", "has 2 collections, and an import has left out members of some. ")):
+            with self.subTest(key):
+                self.ask(f"DROP TABLE IF EXISTS w; CREATE TABLE w ({key}n int, geom geometry); {rows}")
+                status, out, _ = bring_in(self.target, self.store, *PLAIN[:4], "--part-collections", "--overwrite")
+                self.assertEqual(status, 1, out)
+                before = self.ask("SELECT n, ST_AsText(geom) FROM w ORDER BY n")
+                self.assertIn(words, self.refused(self.store, self.target, "--overwrite"))
+                self.assertEqual(self.ask("SELECT n, ST_AsText(geom) FROM w ORDER BY n"), before)
+        # An addition leaves members out too.
+        self.ask(f"DROP TABLE w; CREATE TABLE w (id serial PRIMARY KEY, n int, geom geometry); INSERT INTO w (n, geom) VALUES (7, 'POINT(7 7)')")
+        self.assertEqual(bring_in(self.target, self.store, *PLAIN[:4], "--overwrite")[0], 0)
+        self.ask(f"DELETE FROM w; {rows}")
+        self.assertEqual(bring_in(self.target, self.store, "--add", "--part-collections")[0], 1)
+        Store(self.store, journal=True, program=PROGRAM).close()
+        self.assertIn("has features that an addition has left out, as a whole or in part: 2, 4. ", self.refused(self.store, self.target, "--overwrite"))
+        said = "w is without what its import has left out: parts of 2 features. What is replaced may have them"
+        self.ask(f"DELETE FROM w; {rows}")
+        bring_in(self.target, self.store, *PLAIN[:4], "--part-collections", "--overwrite")
+        self.written(self.store, self.folder / "w.gpkg")
+        self.assertIn(said, self.written(self.store, self.folder / "w.gpkg", "--overwrite"))
 
     def added(self, store, status=1):
         """A store with a grid, to which the database was added."""
@@ -389,7 +415,7 @@ class Others(DatabaseCase):
             # The store has a well 1 of its own, and the row 1 is 2 there.
             store = self.added(self.wells())
             err = self.refused(store, self.target, "--overwrite")
-            self.assertIn("has features of which an addition has left out all or some values: 2. " if key else
+            self.assertIn("has features that an addition has left out, as a whole or in part: 2. " if key else
                           "has 1 row that is not in the store as in the table, and may be what an import has left out. ", err)
             self.assertEqual(self.ask("SELECT wells::text FROM wells ORDER BY depth"), before, name)
             self.ask("DELETE FROM wells WHERE depth = 2; INSERT INTO wells (depth, wkb_geometry) VALUES (9, 'SRID=25832;POINT(9 9)')")
