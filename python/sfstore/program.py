@@ -12,13 +12,13 @@ import threading
 import warnings
 import weakref
 from collections import deque
-from collections.abc import Iterable, Iterator, Sequence
+from collections.abc import Callable, Iterable, Iterator, Sequence
 from typing import IO, Protocol, cast
 
 from sfstore.groups import member_of
 from sfstore.results import Answer, PathName, ProgramEnded, Refused
 
-__all__ = ["BATCH_BYTES", "Link", "Program", "batches", "ProgramMissing", "checked_path", "is_edit", "started"]
+__all__ = ["BATCH_BYTES", "Link", "Program", "batches", "ProgramMissing", "checked_path", "is_edit", "started", "stopped_after"]
 
 BATCH_BYTES = 65_536
 """How many bytes the program reads at once, and a pipe holds. A journal is synced once for them."""
@@ -286,12 +286,15 @@ def checked_path(path: PathName) -> str:
     return word
 
 
-def started(words: list[str], errors: IO[bytes] | None = None, handed: Sequence[int] = ()) -> Program:
-    """A program that has loaded its file. `ProgramEnded` where it could not."""
+def started(
+    words: list[str], errors: IO[bytes] | None = None, handed: Sequence[int] = (), seconds: float = threading.TIMEOUT_MAX
+) -> Program:
+    """A program that has loaded its file. `ProgramEnded` where it could not, or where it takes longer than some seconds."""
     program = Program(words, errors, handed)
     try:
         # It is answered when the file is loaded.
-        [answer] = program.exchange([_GREETING])
+        with stopped_after(seconds, program.stop):
+            [answer] = program.exchange([_GREETING])
         if not isinstance(answer, Refused):
             raise RuntimeError(f"{words[0]} is another program than sfstore")
     except BaseException:
@@ -299,6 +302,21 @@ def started(words: list[str], errors: IO[bytes] | None = None, handed: Sequence[
         program.abort()
         raise
     return program
+
+
+@contextlib.contextmanager
+def stopped_after(seconds: float, stop: Callable[[], object]) -> Iterator[None]:
+    """Has something stopped where the body takes longer than some seconds."""
+    if seconds >= threading.TIMEOUT_MAX:
+        yield
+        return
+    timer = threading.Timer(seconds, stop)
+    timer.start()
+    try:
+        yield
+    finally:
+        timer.cancel()
+        timer.join()
 
 
 def is_edit(line: bytes, outcome: object) -> bool:

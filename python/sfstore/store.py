@@ -19,7 +19,7 @@ from __future__ import annotations
 
 import os
 import warnings
-from collections.abc import Callable
+from collections.abc import Callable, Sequence
 from types import TracebackType
 from typing import TYPE_CHECKING, Literal, overload
 
@@ -30,7 +30,7 @@ from sfstore.group import Added, Group, Which
 from sfstore.journaled import Journaled
 from sfstore.kept import OpenFile
 from sfstore.mapunits import MapUnits, NoPlace
-from sfstore.program import checked_path, started
+from sfstore.program import Program, checked_path, started
 from sfstore.results import (
     Answer,
     Column,
@@ -171,11 +171,15 @@ class Store(Editor):
             if save is not None:
                 sidecar.check_no_own_file(os.fsdecode(save))
                 words.append(f"--save={checked_path(save)}")
-            super().__init__(started(words, handed=handed), "", look)
+            super().__init__(self._started(words, handed), "", look)
             return
         if path is None or load is not None or save is not None:
             raise TypeError("a store with a journal is named by its path alone")
         super().__init__(Journaled(os.fsdecode(program or "sfstore"), path), "", look)
+
+    def _started(self, words: list[str], handed: Sequence[int]) -> Program:
+        """The program, which has loaded its file."""
+        return started(words, handed=handed)
 
     def __enter__(self) -> Store:
         return self

@@ -116,6 +116,7 @@ def _add_owning(commands: argparse._SubParsersAction[argparse.ArgumentParser]) -
     set_up.add_argument(
         "--standbys", type=int, default=1, metavar="N", help="N standbys have a line before it is given out (1)"
     )
+    set_up.add_argument("--renew", action="store_true", help="give a log of an older version what this one does, and change nothing else")
     set_up.set_defaults(carry_out=_set_up)
     login = commands.add_parser("login", help="let a login follow the log; it is made if it is missing")
     login.add_argument("--editor", action="store_true", help="it writes lines, with a number of its own")
@@ -182,6 +183,10 @@ class _Progress:
 
 
 def _set_up(asked: argparse.Namespace) -> int:
+    if asked.renew:
+        owning.renew(asked.log)
+        print("The log does what this version does.")
+        return 0
     if asked.create:
         owning.create_database(asked.log)
     owning.set_up(asked.log, asked.standbys)

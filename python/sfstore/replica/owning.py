@@ -2,6 +2,7 @@
 
 from __future__ import annotations
 
+import re
 import time
 import uuid
 from pathlib import Path
@@ -18,11 +19,13 @@ __all__ = [
     "create_database",
     "cut",
     "drop_before",
+    "renew",
     "set_up",
     "state",
 ]
 
 _SCHEMA = Path(__file__).with_name("log.sql")
+_FUNCTION = re.compile(r"^CREATE FUNCTION .*?\$\$;$", re.DOTALL | re.MULTILINE)
 _EDITORS = 255
 
 # The chain before the first place is random: no other log has it.
@@ -90,6 +93,22 @@ def set_up(dsn: str, standbys: int) -> None:
         if encoding != "UTF8":
             raise ValueError(f"the database has the encoding {encoding}: a log wants UTF8")
         link.ask(f"BEGIN; {_SCHEMA.read_text()} {_HEAD.format(standbys=standbys)}; COMMIT", seconds=60.0)
+    finally:
+        link.close()
+
+
+def renew(dsn: str) -> None:
+    """Gives a log that an older version has made the functions of this one, as a superuser. All of them or none; entries stay as they are.
+
+    `LogRefused` where the database has no log, or one to which they can't be given.
+    """
+    text = _SCHEMA.read_text()
+    functions = [each.replace("CREATE", "CREATE OR REPLACE", 1) for each in _FUNCTION.findall(text)]
+    # Who may call them: those that were not there before are everybody's else.
+    rights = text[text.index("REVOKE ALL ON ALL FUNCTIONS") : text.index("RESET ROLE")]
+    link = primary_of(dsn)
+    try:
+        link.ask(f"BEGIN; SET LOCAL ROLE sfstore_owner; {' '.join(functions)} {rights} COMMIT", seconds=60.0)
     finally:
         link.close()
 

@@ -13,7 +13,7 @@ from sfstore.commandline import reason_of
 from sfstore.journal import JournalError
 from sfstore.kept import OpenFile
 from sfstore.mapgrid import GridChanged, MapGrid
-from sfstore.program import is_edit
+from sfstore.program import Program, is_edit, started, stopped_after
 from sfstore.store import Answer, Editor, ProgramEnded, Refused, Store
 from sfstore.web.batches import Batch, Done, LineRefused, NotTakenBack, carry_out, carry_out_group, is_group, moved, refusal_of, take_back
 from sfstore.web.batchlog import BatchLog, new_mark
@@ -241,7 +241,7 @@ class Keeper:
                     begun.opened.file.close()
                 # A save has taken its place.
                 if self.is_at(begun.file):
-                    raise Unavailable(f"{reason_of(error)}. Every edit that was answered is in the journal.") from error
+                    raise Unavailable(f"{reason_of(error)}. {self._lineage.kept_words()}") from error
 
     def is_at(self, file: int) -> bool:
         """Whether the file is the one of a snapshot."""
@@ -290,12 +290,12 @@ class Keeper:
         except (JournalError, ProgramEnded, RuntimeError, OSError) as error:
             if self._store is not None and not self._is_open(self._store):
                 self._drop()
-            raise Unavailable(f"{reason_of(error)}. Every edit that was answered is in the journal.") from error
+            raise Unavailable(f"{reason_of(error)}. {self._lineage.kept_words()}") from error
 
     def _limited(self, store: Store, lines: int, job: Callable[[], _T]) -> _T:
         """Does a job of so many lines. Where it takes too long, its program is ended, and the store opened anew next time.
 
-        `Unavailable` says so: what was asked for is in the journal, or nothing of it.
+        `Unavailable` says so: what was asked for was carried out, or nothing of it.
         """
         stopped = threading.Event()
 
@@ -312,8 +312,7 @@ class Keeper:
             if not stopped.is_set():
                 raise
             raise Unavailable(
-                f"That took more than {seconds:.0f} seconds and was stopped. Look whether it was carried out: "
-                "every edit that was answered is in the journal."
+                f"That took more than {seconds:.0f} seconds and was stopped. Look whether it was carried out. {self._lineage.kept_words()}"
             ) from error
         finally:
             timer.cancel()
@@ -427,7 +426,8 @@ class Keeper:
         """
         editor, lines = batch.editor, batch.lines
         made = store.unsaved_lines
-        trial = loaded(self._program, Snapshot(store._open_file(), made, self._version, self._file, self._grid, self._lineage.number))
+        snapshot = Snapshot(store._open_file(), made, self._version, self._file, self._grid, self._lineage.number)
+        trial = loaded(self._program, snapshot, self._seconds + len(made) * _LINE_SECONDS)
         try:
             refused = self._limited(trial, len(lines), lambda: refusal_of(_speaker(trial, editor), lines, mark))
         finally:
@@ -504,23 +504,47 @@ class Keeper:
         return unsaved
 
 
-def loaded(program: str, snapshot: Snapshot) -> Store:
-    """A program with the content of a snapshot. `Unavailable` where somebody has written over its file since it was looked at."""
+class _Limited(Store):
+    """A program that is ended where it takes longer than some seconds to load."""
+
+    def __init__(self, program: str, load: int | None, seconds: float) -> None:
+        self._seconds = seconds
+        super().__init__(program=program, load=load, warn_far_off=False)
+
+    def _started(self, words: list[str], handed: Sequence[int]) -> Program:
+        return started(words, handed=handed, seconds=self._seconds)
+
+
+def loaded(program: str, snapshot: Snapshot, seconds: float = threading.TIMEOUT_MAX) -> Store:
+    """A program with the content of a snapshot.
+
+    `Unavailable` where somebody has written over its file since it was looked at, or where it takes longer than some seconds:
+    so long to load it, and so long for the edits behind it.
+    """
     opened = snapshot.opened
-    if opened is None:
-        return _replayed(Store(program=program, warn_far_off=False), snapshot)
-    with opened.file as file:
-        # The open file, since another one may stand under its name by now.
-        store = Store(program=program, load=file.fileno(), warn_far_off=False)
-        if not opened.is_as_seen():
-            store.close(save=False)
-            raise Unavailable(_WRITTEN_OVER)
-    return _replayed(store, snapshot)
+    begun = time.monotonic()
+    try:
+        if opened is None:
+            return _replayed(_Limited(program, None, seconds), snapshot, seconds)
+        with opened.file as file:
+            # The open file, since another one may stand under its name by now.
+            store = _Limited(program, file.fileno(), seconds)
+            if not opened.is_as_seen():
+                store.close(save=False)
+                raise Unavailable(_WRITTEN_OVER)
+        begun = time.monotonic()
+        return _replayed(store, snapshot, seconds)
+    except ProgramEnded as ended:
+        if time.monotonic() - begun < seconds:
+            raise
+        raise Unavailable(f"The store took more than {seconds:.0f} seconds to load in a second program, which was stopped. Nothing was done.") from ended
 
 
-def _replayed(store: Store, snapshot: Snapshot) -> Store:
+def _replayed(store: Store, snapshot: Snapshot, seconds: float) -> Store:
     """A program with the edits behind the file of a snapshot. `Unavailable` where they do not fit what it has loaded."""
-    if any(isinstance(answer, Refused) for answer in store.run_all(snapshot.lines)):
+    with stopped_after(seconds, store.stop):
+        are_refused = any(isinstance(answer, Refused) for answer in store.run_all(snapshot.lines))
+    if are_refused:
         store.close(save=False)
         raise Unavailable(_WRITTEN_OVER)
     return store

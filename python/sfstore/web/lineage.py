@@ -1,4 +1,4 @@
-"""Which store is open: the server gives it a number, and a later server can tell whether it still is that store.
+"""Which store is open: the server gives it a number, and a later server says whether it still is that store.
 
     known = Known()
     known.take(client.call("map", **known.named))      # True: nothing is known yet
@@ -35,7 +35,7 @@ _READ_BYTES = 1 << 16
 class Lineage:
     """The store of a file as a server has it open, by number and point.
 
-    One thread tells it of openings and edits; any may ask for the number and the point.
+    One thread notes openings and edits; any may ask for the number and the point.
     """
 
     def __init__(self, store: str) -> None:
@@ -59,6 +59,12 @@ class Lineage:
         """Whether the store has all that it had at a point, as `goes_on` says it."""
         return goes_on(self._store, point)
 
+    def kept_words(self) -> str:
+        """Whether the journal has all edits that were answered, in a sentence: it is looked at."""
+        if self.goes_on(self.point):
+            return "Every edit that was answered is in the journal."
+        return "Look at the last edits: the journal is not as it was behind them, or can't be read."
+
 
 class Known:
     """What a program knows of a store on which it works, whichever servers of it come and go."""
@@ -69,7 +75,7 @@ class Known:
 
     @property
     def named(self) -> dict[str, Any]:
-        """What a call of ``map`` says, to be told whether the store is still the one that is known."""
+        """What a call of ``map`` says, so that its answer says whether the store is still the one that is known."""
         return {"known": self._point}
 
     def take(self, told: dict[str, Any]) -> bool:

@@ -12,6 +12,7 @@ import signal
 import subprocess
 import sys
 import threading
+import time
 import unittest
 from unittest import mock
 
@@ -35,6 +36,18 @@ MADE = (
     f"add p {SQUARE}\nadd p {SQUARE}\nset p 1 owner 'Dunn'\nset p 2 number 2\n"
 ).encode()
 
+# One that does as the real one, but takes its time for each line that sets a value behind a file, while a file is there.
+SLEEPS = """\
+#!{python}
+import os, subprocess, sys, time
+child = subprocess.Popen([{program!r}, *sys.argv[1:]], stdin=subprocess.PIPE, close_fds=False)
+for line in sys.stdin.buffer:
+    if sys.argv[1].startswith("--load") and b" set " in line and os.path.exists({flag!r}):
+        child.kill()
+        time.sleep(20)
+    child.stdin.write(line)
+    child.stdin.flush()
+"""
 # A program that does as the real one, but has no memory for more undos than a file says, while that is there.
 # Only the program that keeps the journal has no memory, for an addition of a third column and for further undos: another one
 # carries all out.
@@ -893,6 +906,78 @@ class Snapshots(TestCase):
         path.write_bytes(path.read_bytes().replace(b"number 1", b"number 2"))
         with self.assertRaisesRegex(Unavailable, "at place [0-9]+ is damaged"):
             self.keeper.snapshot()
+
+
+class Trial(TestCase):
+    """The second program in which a batch with layers is tried."""
+
+    BATCH = ["layer add a point", "add a POINT (1 1)"]
+
+    def keeper(self, program=PROGRAM, seconds=60.0):
+        path = self.folder / "town.sfs"
+        with Store(program=PROGRAM, save=path) as store:
+            store.run_all(MADE.decode().splitlines())
+        keeper = Keeper(str(path), str(program), seconds)
+        self.addCleanup(ended, keeper)
+        return keeper
+
+    def test_it_has_the_mark_of_the_batch(self):
+        """A longer one makes of its line one that is too long."""
+        keeper = self.keeper()
+        lines = [self.BATCH[0], self.BATCH[1] + " " * (4_194_304 - 20 - len(self.BATCH[1]))]
+        with mock.patch("sfstore.web.keeper.new_mark", side_effect=[" " * 8, " " * 63]):
+            self.assertEqual(keeper.carry_out_all(Batch(1, "page", lines, [None, None])).answers, ["ok", "ok 1"])
+
+    def test_one_that_takes_too_long_to_load_is_stopped(self):
+        flag, program = self.folder / "slow", self.folder / "program"
+        program.write_text(f'#!/bin/sh\ncase "$1" in --load=*) [ -e {flag} ] && exec sleep 20;; esac\nexec {PROGRAM} "$@"\n')
+        program.chmod(0o755)
+        keeper = self.keeper(program, 1.0)
+        flag.touch()
+        begun = time.monotonic()
+        with self.assertRaisesRegex(Unavailable, "took more than 1 seconds to load in a second program, which was stopped. Nothing was done."):
+            keeper.carry_out_all(Batch(1, "page", self.BATCH, [None, None]))
+        self.assertLess(time.monotonic() - begun, 10)
+        # The store is open as it was.
+        self.assertEqual(keeper.carry_out(Asked(1, "page", "set p 1 number 5", None)), "ok")
+        flag.unlink()
+        self.assertEqual(keeper.carry_out_all(Batch(1, "page", self.BATCH, [None, None])).answers, ["ok", "ok 1"])
+
+    def test_nor_may_the_edits_behind_the_file_take_longer(self):
+        flag, program = self.folder / "slow", self.folder / "program"
+        program.write_text(SLEEPS.format(python=sys.executable, program=PROGRAM, flag=str(flag)))
+        program.chmod(0o755)
+        keeper = self.keeper(program, 1.0)
+        keeper.carry_out(Asked(1, "page", "set p 1 number 5", None))
+        flag.touch()
+        begun = time.monotonic()
+        with self.assertRaisesRegex(Unavailable, "Nothing was done."):
+            keeper.carry_out_all(Batch(1, "page", self.BATCH, [None, None]))
+        self.assertLess(time.monotonic() - begun, 10)
+
+
+class Kept(TestCase):
+    """What is said of the edits where the store can't be opened."""
+
+    def test_the_journal_is_looked_at_before_anything_is_said_of_it(self):
+        path = self.folder / "town.sfs"
+        with Store(program=PROGRAM, save=path) as store:
+            store.run_all(MADE.decode().splitlines())
+        keeper = Keeper(str(path), PROGRAM)
+        self.addCleanup(ended, keeper)
+        keeper.carry_out(Asked(1, "page", "set p 1 number 5", None))
+        records = path.with_name("town.sfs.journal").read_bytes()
+        path.write_bytes(b"no store")
+        for content, words in (
+            (records, "Every edit that was answered is in the journal."),
+            (records[:-9], "Look at the last edits: the journal is not as it was behind them"),
+            (None, "Look at the last edits: the journal is not as it was behind them"),
+        ):
+            path.with_name("town.sfs.journal").unlink()
+            if content is not None:
+                path.with_name("town.sfs.journal").write_bytes(content)
+            with self.subTest(content=content), self.assertRaisesRegex(Unavailable, words):
+                keeper.ask(lambda store: store.stop() or store.layers())
 
 
 class Cut(TestCase):

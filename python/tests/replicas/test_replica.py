@@ -523,6 +523,21 @@ class Sessions(ReplicaCase):
         self.assertEqual((status, "already exists" in said), (3, True))
         self.assertEqual(self.command("state", other)[:2][1].splitlines()[0], "places 1 to 0")
 
+    def test_a_log_of_an_older_version_is_renewed(self):
+        self.assertEqual(self.command("setup", "--renew", self.pair.primary.dsn())[0], 3)
+        [ann] = self.town("ann")
+        ann.run("add w POINT (1 1)")
+        entries, functions = self.ask("SELECT * FROM sfstore.log ORDER BY at"), self.ask(FUNCTIONS)
+        # As an older one was: one function is another one, and one is not there.
+        self.ask("CREATE OR REPLACE FUNCTION sfstore.drop_before(place bigint, replicas int, age interval DEFAULT '1 hour') RETURNS bigint "
+                 "LANGUAGE plpgsql AS 'BEGIN RETURN 7; END'; DROP FUNCTION sfstore.tried_since")
+        self.assertNotEqual(self.ask(FUNCTIONS), functions)
+        self.assertEqual(self.command("setup", "--renew", self.owner), (0, "The log does what this version does.\n", ""))
+        self.assertEqual(self.ask(FUNCTIONS), functions)
+        self.assertEqual(self.ask("SELECT * FROM sfstore.log ORDER BY at"), entries)
+        self.assert_denied("ann", "SELECT sfstore.tried_since(gen_random_uuid())")
+        self.assertEqual(ann.run("add w POINT (2 2)"), "ok 2")
+
     def test_questions_while_no_server_is_there(self):
         self.town("ann")[0].close()
         process = subprocess.Popen(
@@ -551,6 +566,8 @@ class Sessions(ReplicaCase):
         self.assertIn(b"the log is not there, and what is here is place 2", said)
 
 
+# What a log does, and who may have it do that.
+FUNCTIONS = "SELECT proname, pg_get_functiondef(oid), proacl::text, proowner FROM pg_proc WHERE pronamespace = 'sfstore'::regnamespace ORDER BY 1"
 DROP = "SELECT sfstore.drop_before(%s, 1, '0')"
 
 
