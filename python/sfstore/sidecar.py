@@ -157,13 +157,26 @@ class Sidecar:
     """The SHA-256 of the store's file, and of the one that is about to take its place."""
     additions: list[Addition] = field(default_factory=list)
 
+    forgets_files: bool = False
+    """Whether files were added of which it does not name what was left out, since there are more than it has room for."""
+    forgets_tables: bool = False
+    """Whether tables of a database were."""
+
     def with_additions(self, additions: Iterable[Addition]) -> Sidecar:
-        """With what was left out of further sources."""
+        """With what was left out of further sources. Where there is no room for all, the oldest go: files before tables."""
         known = {_key(addition): addition for addition in self.additions}
         for addition in additions:
-            before = known.get(_key(addition))
+            # The last one of all, also where it was there before.
+            before = known.pop(_key(addition), None)
             known[_key(addition)] = before.and_(addition) if before else addition
-        return replace(self, additions=list(known.values())[-_ADDITIONS_MAX:])
+        by_age = sorted(known.values(), key=lambda each: not each.source)
+        gone = by_age[: max(0, len(by_age) - _ADDITIONS_MAX)]
+        return replace(
+            self,
+            additions=[each for key, each in known.items() if key not in set(map(_key, gone))],
+            forgets_files=self.forgets_files or any(each.source for each in gone),
+            forgets_tables=self.forgets_tables or not all(each.source for each in gone),
+        )
 
 
 def _key(addition: Addition) -> tuple[str, str, str, str]:
@@ -327,7 +340,10 @@ def _sidecar(content: dict[str, Any]) -> Sidecar:
     additions = [_addition(each, room) for each in reversed(content.get("additions", []))][::-1]
     if len(additions) > _ADDITIONS_MAX:
         raise ValueError(f"more than {_ADDITIONS_MAX:,} additions")
-    return Sidecar((x, y, step), known, layers, list(map(str, content["digests"])), additions)
+    forgets = [content.get(name, False) for name in ("forgets_files", "forgets_tables")]
+    if not all(isinstance(each, bool) for each in forgets):
+        raise TypeError(f"{forgets!r} are neither true nor false")
+    return Sidecar((x, y, step), known, layers, list(map(str, content["digests"])), additions, *forgets)
 
 
 def _layer(content: dict[str, Any], room: _Room) -> LayerOrigin:

@@ -150,6 +150,8 @@ def _left_out(wishes: Wishes, parts: list[Part], found: Sidecar) -> list[str]:
             words = _left_words(left)
             if words:
                 told.append(f"{part.name} is without what {what} has left out: {'; '.join(words)}. What is replaced may have them")
+    if found.forgets_files:
+        told.append("files were added of which the side-car has no room to name what was left out. What is replaced may have it")
     return told
 
 

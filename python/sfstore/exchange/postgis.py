@@ -163,6 +163,7 @@ class _Export:
         self._asked_schema = schema
         self._crs = found.crs
         self._additions = found.additions
+        self._forgets_tables = found.forgets_tables
         self.places = Grid(*found.grid).places
         self._overwrite = overwrite
 
@@ -387,7 +388,7 @@ class _Export:
 
     def _check_named(self, part: Part, table: _Table) -> None:
         """`ogr.ExchangeError` where the side-car does not name all that was left out of a table, and the table has rows: nobody knows which they are."""
-        is_cut = part.origin.cut or any(each.cut for each in self.additions_of(part))
+        is_cut = self._forgets_tables or part.origin.cut or any(each.cut for each in self.additions_of(part))
         if is_cut and self._run(self.format("SELECT 1 FROM {} LIMIT 1", self.quoted(table.schema, table.name))).fetchall():
             raise ogr.ExchangeError(
                 f"the table {ogr.printable(part.name)} may have features, or values of them, that an import has left out: they are more "

@@ -10,6 +10,7 @@ import subprocess
 import sys
 import tempfile
 import unittest
+from dataclasses import replace
 from decimal import Decimal
 from importlib.util import find_spec
 from pathlib import Path
@@ -485,6 +486,30 @@ class Others(DatabaseCase):
         err = self.refused(self.store, self.target, "--overwrite")
         self.assertIn("the table w may have features, or values of them, that an import has left out: they are more than the side-car", err)
         self.assertEqual(self.ask("SELECT * FROM w ORDER BY id"), [before[0], before[2]])
+        self.ask("DELETE FROM w")
+        self.written(self.store, self.target, "--overwrite")
+
+    def test_a_table_is_not_replaced_where_a_side_car_has_no_room_for_all_that_was_added(self):
+        self.ask("CREATE TABLE w (id int PRIMARY KEY, geom geometry(Point)); INSERT INTO w VALUES (1, 'POINT(1 2)')")
+        self.assertEqual(bring_in(self.target, self.store, *PLAIN[:4])[0], 0)
+        self.ask("INSERT INTO w VALUES (2, 'POINT(1.5 3)'), (3, 'POINT(4 4)')")
+        before = self.ask("SELECT * FROM w ORDER BY id")
+        self.assertEqual(bring_in(self.target, self.store, "--add")[0], 1)
+        Store(self.store, journal=True, program=PROGRAM).close()
+        found = sidecar.read(str(self.store))
+        first = found.additions[0]
+        for others, words in (
+            # Those of files go first.
+            ([replace(first, source=f"{number}.gpkg") for number in range(1_000)], "has features that an addition has left out, as a whole or in part: 2. "),
+            ([replace(first, source_name=f"w{number}") for number in range(1_000)], "may have features, or values of them, that an import has left out"),
+        ):
+            many = found
+            for number in range(0, 1_000, 100):
+                many = many.with_additions(others[number : number + 100])
+            sidecar.write(str(self.store), many, found.digests)
+            self.assertEqual(len(sidecar.read(str(self.store)).additions), 1_000)
+            self.assertIn(words, self.refused(self.store, self.target, "--overwrite"))
+            self.assertEqual(self.ask("SELECT * FROM w ORDER BY id"), before)
         self.ask("DELETE FROM w")
         self.written(self.store, self.target, "--overwrite")
 
