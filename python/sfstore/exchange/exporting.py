@@ -21,6 +21,7 @@ from sfstore.exchange.constraints import Demanded, demanded_by, rules_said, writ
 from sfstore.exchange.formats import FORMATS, RULES_MAX, Part, format_of, parts_of, rules_kept
 from sfstore.exchange.geojson import crs_member
 from sfstore.exchange.grid import Grid
+from sfstore.exchange.others import OldFile
 from sfstore.exchange.placing import Place, placed
 from sfstore.exchange.postgis import write_database
 from sfstore.exchange.replacing import check_none_lost
@@ -229,7 +230,13 @@ def _write_file(wishes: Wishes, parts: list[Part], found: Sidecar, rules: list[A
     if wishes.format == "GPKG" and wishes.overwrite:
         check_none_lost(place.path(name), parts, say)
     with placed(place, say) as new:
-        write_data(os.path.join(new, place.leading), wishes.format, parts, found, rules)
+        old = [] if wanted.has_layers or not wishes.overwrite else [OldFile(place.path(name), wishes.format, parts[0])]
+        for each in old:
+            each.look(say)
+        made = os.path.join(new, place.leading)
+        write_data(made, wishes.format, parts, found, rules)
+        for each in old:
+            each.compare(made, say)
         _check_strangers(place, wishes.format)
         if wishes.overwrite and changed(before):
             raise ogr.ExchangeError(f"{place.path(name)} was written by another program meanwhile: try again")
@@ -278,11 +285,17 @@ def _write_folder(wishes: Wishes, parts: list[Part], found: Sidecar, say: Say) -
         raise ogr.ExchangeError(f"{wishes.target} can't be replaced: name a folder in it")
     contents = frozenset(part.name + ending for part in parts for ending in wanted.endings)
     place = Place(folder, [name], contents, wishes.overwrite, _mode(wishes))
+    old = [OldFile(os.path.join(place.path(name), part.name + wanted.ending), wishes.format, part) for part in parts]
     with placed(place, say) as new:
+        for each in old if wishes.overwrite else []:
+            each.look(say)
         made = os.path.join(new, name)
         os.mkdir(made)
-        for part in parts:
-            write_data(os.path.join(made, part.name + wanted.ending), wishes.format, [part], found)
+        paths = [os.path.join(made, part.name + wanted.ending) for part in parts]
+        for part, path in zip(parts, paths):
+            write_data(path, wishes.format, [part], found)
+        for each, path in zip(old, paths):
+            each.compare(path, say)
 
 
 def _mode(wishes: Wishes) -> int:
