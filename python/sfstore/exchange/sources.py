@@ -17,7 +17,7 @@ from sfstore.exchange.besides import besides
 from sfstore.exchange.fields import Fields
 from sfstore.exchange.jsonlayer import JsonLayer
 from sfstore.exchange.layers import STRANGER, Feature, Layer, Lost, Source
-from sfstore.exchange.shapefiles import beside, deleted_records, index_fault, table_fault
+from sfstore.exchange.shapefiles import beside, deleted_records, index_fault, set_faults, table_fault
 from sfstore.exchange.srids import strangers
 from sfstore.exchange.stamps import BESIDE, archive_of, changed, mode_of, stamps_of
 from sfstore.exchange.tables import fault_of
@@ -313,6 +313,8 @@ class OgrLayer(Layer):
         unnamed = index_fault(self._data, self.name) if self.format == _SHAPEFILE else ""
         if unnamed:
             yield Lost("its .shx does not name all of its .shp, and no more", unnamed)
+        for reason, detail in set_faults(self._data, self.name) if self.format == _SHAPEFILE else ():
+            yield Lost(reason, detail)
         has_columns = self._layer.GetLayerDefn().GetFieldCount() > 0
         fault = table_fault(self._data, self.name) if self.format == _SHAPEFILE and not has_columns else ""
         if fault:
