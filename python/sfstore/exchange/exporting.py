@@ -18,7 +18,7 @@ from sfstore import files, journal, sidecar
 from sfstore.commandline import add_version, reason_of
 from sfstore.exchange import ogr, outcome, rulesfile
 from sfstore.exchange.constraints import Demanded, demanded_by, rules_said, writable
-from sfstore.exchange.formats import FORMATS, RULES_MAX, Part, format_of, parts_of, rules_kept
+from sfstore.exchange.formats import FORMATS, RULES_MAX, Part, check_columns, format_of, parts_of, rules_kept
 from sfstore.exchange.geojson import crs_member
 from sfstore.exchange.grid import Grid
 from sfstore.exchange.others import OldFile
@@ -92,6 +92,7 @@ def give_back(wishes: Wishes, say: Say) -> None:
     parts, told, losses = parts_of(layers, found, wishes.layers, wanted)
     for line in told:
         say(line)
+    check_columns(parts, wishes.format)
     kept = rules_kept(rules, parts, wanted)
     if wishes.constrains:
         parts = [_constrained(part, rules, say) for part in parts]

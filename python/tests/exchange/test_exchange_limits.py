@@ -81,6 +81,24 @@ class Limits(ExchangeCase):
             self.assertEqual(bring_in(target, self.store, *GRID, "--overwrite")[::2], (0, ""))
             self.assertEqual(self.store.read_bytes(), kept)
 
+    def test_a_layer_of_more_columns_than_a_format_has_is_refused_before_anything_is_written(self) -> None:
+        for target, columns, value, words in (
+            ("o.gpkg", 1_999, "", "1,999 columns, and the format has at most 1,998"),
+            ("PG:dbname=none host=/none", 1_599, "", "1,599 columns, and the format has at most 1,598"),
+            ("o.shp", 2_047, "", "2,047 columns, and the format has at most 2,046"),
+            ("o.shp", 820, "x", "820 columns with 65,600 bytes of values for each feature, and the format has at most 65,534"),
+            ("o.shp", 259, "x" * 300, "259 columns with 65,786 bytes of values for each feature, and the format has at most 65,534"),
+        ):
+            with self.subTest(target, columns=columns):
+                self.store.unlink(missing_ok=True)
+                with Store(PROGRAM, save=self.store) as store:
+                    store.run_all(["layer add w point", *(f"column add w c{at} text" for at in range(columns)), "add w POINT (1 2)"])
+                    store.run_all([f"set w 1 c{at} '{value}'" for at in range(columns) if value])
+                place = target if target.startswith("PG:") else self.folder / target
+                status, out, err = give_back(self.store, place, "--grid", "0", "0", "1")
+                self.assertEqual((status, out), (3, ""))
+                self.assertEqual(err, f"sfstore-export: w has {words}: drop columns in a copy of the store, or choose another format\n")
+
 
 if __name__ == "__main__":
     unittest.main()
