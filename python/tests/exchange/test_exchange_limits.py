@@ -2,6 +2,7 @@
 
 from __future__ import annotations
 
+import os
 import sqlite3
 import unittest
 from pathlib import Path
@@ -11,7 +12,7 @@ from support import PROGRAM
 
 from test_exchange import GRID, HAS_GDAL, ExchangeCase, bring_in, give_back
 
-from sfstore import Store
+from sfstore import Store, files
 from sfstore.language import INT_MAX, INT_MIN, TEXT_MAX
 
 # Of each type of a GeoPackage: the type of the store's column, what a row of the GeoPackage has, and how the store shows it.
@@ -98,6 +99,25 @@ class Limits(ExchangeCase):
                 status, out, err = give_back(self.store, place, "--grid", "0", "0", "1")
                 self.assertEqual((status, out), (3, ""))
                 self.assertEqual(err, f"sfstore-export: w has {words}: drop columns in a copy of the store, or choose another format\n")
+
+    def test_a_store_of_whatever_name_that_comes_in_is_saved_and_goes_out(self) -> None:
+        taken = []
+        for count in range(108, 122):
+            path = self.folder / f"{'Ж' * count}.sfs"
+            if bring_in(self.source, path, *GRID, "--layer", "w")[0] == 0:
+                taken.append(count)
+                with Store(path, journal=True, program=PROGRAM) as store:
+                    store.add("w", "POINT (5 5)")
+                self.assertEqual(give_back(path, self.folder / f"{count}.gpkg")[::2], (0, ""))
+        self.assertEqual(taken, list(range(108, 118)))
+
+    def test_what_is_made_beside_files_of_long_names_is_told_apart(self) -> None:
+        first, second = (str(self.folder / ("w" * 240 + end)) for end in ("a", "b"))
+        made = [files.made_beside(path) for path in (first, second)]
+        for _, file in made:
+            os.close(file)
+        files.remove_leftovers(first)
+        self.assertEqual([os.path.exists(path) for path, _ in made], [False, True])
 
 
 if __name__ == "__main__":
