@@ -100,6 +100,12 @@ class Limits(ExchangeCase):
                 self.assertEqual((status, out), (3, ""))
                 self.assertEqual(err, f"sfstore-export: w has {words}: drop columns in a copy of the store, or choose another format\n")
 
+    def test_an_empty_layer_of_any_kind_is_no_shapefile(self) -> None:
+        with Store(PROGRAM, save=self.store) as store:
+            store.run_all(["layer add w any"])
+        err = give_back(self.store, self.folder / "w.shp", "--grid", "0", "0", "1")[2]
+        self.assertIn("sfstore-export: w is empty and takes features of any kind: a Shapefile has one of points, lines or areas\n", err)
+
     def test_a_store_of_whatever_name_that_comes_in_is_saved_and_goes_out(self) -> None:
         taken = []
         for count in range(108, 122):
