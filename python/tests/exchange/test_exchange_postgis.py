@@ -190,6 +190,14 @@ class Others(DatabaseCase):
         self.assertIn("deep inherits from wells", err)
         self.assertEqual(self.ask("SELECT count(*) FROM wells"), [(2,)])
 
+    def test_rows_that_a_table_has_of_those_that_inherit_from_it_are_reported(self):
+        self.ask("CREATE SCHEMA maps; CREATE TABLE maps.roads (gid serial PRIMARY KEY, geom geometry(Point)); CREATE TABLE highways (lanes int) INHERITS (maps.roads); "
+                 "INSERT INTO maps.roads (geom) VALUES ('POINT(1 2)'); INSERT INTO highways (geom) VALUES ('POINT(3 4)')")
+        status, out, err = bring_in(self.target, self.store, *GRID)
+        self.assertEqual((status, err), (1, ""), out)
+        self.assertIn("maps.roads: 2 features read, 2 taken\n", out)
+        self.assertEqual(out.count("  rows of tables that inherit from it are among its own, and again in the layers of these: highways\n"), 1)
+
     def test_columns_of_others_are_not_lost(self):
         self.written(self.wells(), self.target, *PLAIN)
         self.ask("ALTER TABLE wells ADD price numeric; UPDATE wells SET price = 9.5")
