@@ -30,6 +30,8 @@ __all__ = [
 # What is made beside a file `NAME` has the name `.NAME.sfstore-` and these digits: nobody else uses it.
 _MARK = ".sfstore-"
 _DIGITS = 12
+# The most bytes of a name.
+_NAME_MAX = 255
 
 
 def digest(path: str) -> str:
@@ -97,15 +99,23 @@ def made_beside(path: str, like: str | None = None) -> tuple[str, int]:
     flags = os.O_RDWR | os.O_CREAT | os.O_EXCL | os.O_NOFOLLOW | os.O_CLOEXEC
     mode = 0o600 if like is not None and os.path.exists(like) else 0o666
     while True:
-        beside = os.path.join(folder, f".{name}{_MARK}{secrets.token_hex(_DIGITS // 2)}")
+        beside = os.path.join(folder, _made_for(name) + secrets.token_hex(_DIGITS // 2))
         with contextlib.suppress(FileExistsError):
             return beside, os.open(beside, flags, mode)
+
+
+def _made_for(name: str) -> str:
+    """What a name begins with that is made beside a file: it has the file's name, or where that is too long a part of it and a digest."""
+    shown, digits = name, ""
+    while len(os.fsencode(f".{shown}{digits}{_MARK}")) + _DIGITS > _NAME_MAX:
+        shown, digits = shown[:-1], "." + hashlib.sha256(os.fsencode(name)).hexdigest()[:_DIGITS]
+    return f".{shown}{digits}{_MARK}"
 
 
 def remove_leftovers(path: str) -> None:
     """Takes away what `made_beside` has made for a path and an earlier process has left."""
     folder, name = os.path.split(os.path.abspath(path))
-    leftover = re.compile(re.escape(f".{name}{_MARK}") + f"[0-9a-f]{{{_DIGITS}}}")
+    leftover = re.compile(re.escape(_made_for(name)) + f"[0-9a-f]{{{_DIGITS}}}")
     for found in os.listdir(folder):
         if leftover.fullmatch(found):
             # Where somebody else has put something under such a name, it stays.

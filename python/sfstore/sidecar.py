@@ -45,7 +45,7 @@ _FORMAT = "sfstore side-car 1"
 # How many features it names in all: some kilobytes of ranges would be gigabytes of numbers.
 _NAMED_MAX = 20 * LEFT_MAX
 # What a layer has of features that were left out, which is written as ranges: 1-7 9.
-_LEFT = ("left_out", "without")
+_LEFT = ("left_out", "without", "parted")
 _RANGE = re.compile("(-?[0-9]{1,20})(?:-(-?[0-9]{1,20}))?")
 # Why a file that is there can't be read just now, though it may be the next time.
 _PASSING = {errno.EAGAIN, errno.EINTR, errno.EIO, errno.EMFILE, errno.ENFILE, errno.ENOMEM, errno.ENOSPC, errno.ESTALE}
@@ -107,7 +107,9 @@ class LayerOrigin:
     left_columns: list[str] = field(default_factory=list)
     """What it has left out of all features: columns, and ``Z or M``."""
     cut: bool = False
-    """Whether there are more such features than these two name."""
+    """Whether there are more such features than these name."""
+    parted: list[int] = field(default_factory=list)
+    """The features that it has taken without some members of their collections, in the same way."""
 
 
 @dataclass(frozen=True)
@@ -125,14 +127,22 @@ class Addition:
     without: list[int] = field(default_factory=list)
     left_columns: list[str] = field(default_factory=list)
     cut: bool = False
+    identifier_column: str = ""
+    """The column of the identifiers in the source. Empty where it has none."""
+    parted: list[int] = field(default_factory=list)
+
+    @property
+    def has_losses(self) -> bool:
+        """Whether anything was left out."""
+        return bool(self.cut or self.left_out or self.without or self.parted or self.left_columns)
 
     def and_(self, other: Addition) -> Addition:
         """What was left out of the same source twice."""
-        left_out = sorted({*self.left_out, *other.left_out})
-        without = sorted({*self.without, *other.without})
+        named = {name: sorted({*getattr(self, name), *getattr(other, name)}) for name in _LEFT}
         columns = list(dict.fromkeys([*self.left_columns, *other.left_columns]))
-        cut = self.cut or other.cut or max(len(left_out), len(without)) > LEFT_MAX
-        return replace(self, left_out=left_out[:LEFT_MAX], without=without[:LEFT_MAX], left_columns=columns, cut=cut)
+        cut = self.cut or other.cut or any(len(each) > LEFT_MAX for each in named.values())
+        first: dict[str, Any] = {name: each[:LEFT_MAX] for name, each in named.items()}
+        return replace(self, left_columns=columns, cut=cut, **first)
 
 
 @dataclass(frozen=True)
@@ -147,18 +157,31 @@ class Sidecar:
     """The SHA-256 of the store's file, and of the one that is about to take its place."""
     additions: list[Addition] = field(default_factory=list)
 
+    forgets_files: bool = False
+    """Whether files were added of which it does not name what was left out, since there are more than it has room for."""
+    forgets_tables: bool = False
+    """Whether tables of a database were."""
+
     def with_additions(self, additions: Iterable[Addition]) -> Sidecar:
-        """With what was left out of further sources."""
+        """With what was left out of further sources. Where there is no room for all, the oldest go: files before tables."""
         known = {_key(addition): addition for addition in self.additions}
         for addition in additions:
-            before = known.get(_key(addition))
+            # The last one of all, also where it was there before.
+            before = known.pop(_key(addition), None)
             known[_key(addition)] = before.and_(addition) if before else addition
-        return replace(self, additions=list(known.values())[-_ADDITIONS_MAX:])
+        by_age = sorted(known.values(), key=lambda each: not each.source)
+        gone = by_age[: max(0, len(by_age) - _ADDITIONS_MAX)]
+        return replace(
+            self,
+            additions=[each for key, each in known.items() if key not in set(map(_key, gone))],
+            forgets_files=self.forgets_files or any(each.source for each in gone),
+            forgets_tables=self.forgets_tables or not all(each.source for each in gone),
+        )
 
 
-def _key(addition: Addition) -> tuple[str, str, str]:
-    """The source of an addition, and the layer that it was added to."""
-    return addition.name, addition.source, addition.source_name
+def _key(addition: Addition) -> tuple[str, str, str, str]:
+    """The source of an addition with its key, and the layer that it was added to."""
+    return addition.name, addition.source, addition.source_name, addition.identifier_column
 
 
 def path_of(store: str) -> str:
@@ -317,7 +340,10 @@ def _sidecar(content: dict[str, Any]) -> Sidecar:
     additions = [_addition(each, room) for each in reversed(content.get("additions", []))][::-1]
     if len(additions) > _ADDITIONS_MAX:
         raise ValueError(f"more than {_ADDITIONS_MAX:,} additions")
-    return Sidecar((x, y, step), known, layers, list(map(str, content["digests"])), additions)
+    forgets = [content.get(name, False) for name in ("forgets_files", "forgets_tables")]
+    if not all(isinstance(each, bool) for each in forgets):
+        raise TypeError(f"{forgets!r} are neither true nor false")
+    return Sidecar((x, y, step), known, layers, list(map(str, content["digests"])), additions, *forgets)
 
 
 def _layer(content: dict[str, Any], room: _Room) -> LayerOrigin:

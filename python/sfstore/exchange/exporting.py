@@ -18,9 +18,10 @@ from sfstore import files, journal, sidecar
 from sfstore.commandline import add_version, reason_of
 from sfstore.exchange import ogr, outcome, rulesfile
 from sfstore.exchange.constraints import Demanded, demanded_by, rules_said, writable
-from sfstore.exchange.formats import FORMATS, RULES_MAX, Part, format_of, parts_of, rules_kept
+from sfstore.exchange.formats import FORMATS, RULES_MAX, Part, check_columns, format_of, parts_of, rules_kept
 from sfstore.exchange.geojson import crs_member
 from sfstore.exchange.grid import Grid
+from sfstore.exchange.others import OldFile
 from sfstore.exchange.placing import Place, placed
 from sfstore.exchange.postgis import write_database
 from sfstore.exchange.replacing import check_none_lost
@@ -91,6 +92,7 @@ def give_back(wishes: Wishes, say: Say) -> None:
     parts, told, losses = parts_of(layers, found, wishes.layers, wanted)
     for line in told:
         say(line)
+    check_columns(parts, wishes.format)
     kept = rules_kept(rules, parts, wanted)
     if wishes.constrains:
         parts = [_constrained(part, rules, say) for part in parts]
@@ -150,6 +152,8 @@ def _left_out(wishes: Wishes, parts: list[Part], found: Sidecar) -> list[str]:
             words = _left_words(left)
             if words:
                 told.append(f"{part.name} is without what {what} has left out: {'; '.join(words)}. What is replaced may have them")
+    if found.forgets_files:
+        told.append("files were added of which the side-car has no room to name what was left out. What is replaced may have it")
     return told
 
 
@@ -161,6 +165,7 @@ def _left_words(left: LayerOrigin | Addition) -> list[str]:
     """What was left out, in words."""
     return [
         *([f"{len(left.left_out)} features"] if left.left_out else []),
+        *([f"parts of {len(left.parted)} features"] if left.parted else []),
         *([f"values of {len(left.without)} features"] if left.without else []),
         *(["further features or values of them, which the side-car has no room to name"] if left.cut else []),
         *([f"all of {ogr.printable(', '.join(left.left_columns))}"] if left.left_columns else []),
@@ -226,7 +231,13 @@ def _write_file(wishes: Wishes, parts: list[Part], found: Sidecar, rules: list[A
     if wishes.format == "GPKG" and wishes.overwrite:
         check_none_lost(place.path(name), parts, say)
     with placed(place, say) as new:
-        write_data(os.path.join(new, place.leading), wishes.format, parts, found, rules)
+        old = [] if wanted.has_layers or not wishes.overwrite else [OldFile(place.path(name), wishes.format, parts[0])]
+        for each in old:
+            each.look(say)
+        made = os.path.join(new, place.leading)
+        write_data(made, wishes.format, parts, found, rules)
+        for each in old:
+            each.compare(made, say)
         _check_strangers(place, wishes.format)
         if wishes.overwrite and changed(before):
             raise ogr.ExchangeError(f"{place.path(name)} was written by another program meanwhile: try again")
@@ -275,11 +286,17 @@ def _write_folder(wishes: Wishes, parts: list[Part], found: Sidecar, say: Say) -
         raise ogr.ExchangeError(f"{wishes.target} can't be replaced: name a folder in it")
     contents = frozenset(part.name + ending for part in parts for ending in wanted.endings)
     place = Place(folder, [name], contents, wishes.overwrite, _mode(wishes))
+    old = [OldFile(os.path.join(place.path(name), part.name + wanted.ending), wishes.format, part) for part in parts]
     with placed(place, say) as new:
+        for each in old if wishes.overwrite else []:
+            each.look(say)
         made = os.path.join(new, name)
         os.mkdir(made)
-        for part in parts:
-            write_data(os.path.join(made, part.name + wanted.ending), wishes.format, [part], found)
+        paths = [os.path.join(made, part.name + wanted.ending) for part in parts]
+        for part, path in zip(parts, paths):
+            write_data(path, wishes.format, [part], found)
+        for each, path in zip(old, paths):
+            each.compare(path, say)
 
 
 def _mode(wishes: Wishes) -> int:

@@ -8,22 +8,25 @@ from dataclasses import dataclass
 from types import MappingProxyType
 from typing import NamedTuple
 
-from sfstore.exchange.columns import DATE, DATE_TIME, REAL, STRING, Sort, Survey, origin_of, sort_of, surveyed
+from sfstore.exchange.columns import DATE, DATE_TIME, INTEGER, INTEGER_64, REAL, STRING, Sort, Survey, origin_of, sort_of, surveyed
 from sfstore.exchange.constraints import Demanded
 from sfstore.exchange.names import FreeNames
-from sfstore.exchange.ogr import printable
+from sfstore.exchange.ogr import ExchangeError, printable
 from sfstore.language import COLUMN_TYPES
 from sfstore.rules import AnyRule
 from sfstore.sidecar import ColumnOrigin, LayerOrigin, Sidecar
 from sfstore.storefile import DATE as FILE_DATE
 from sfstore.storefile import BOOL, DATETIME, FileLayer
 
-__all__ = ["FORMATS", "RULES_MAX", "Format", "Part", "format_of", "parts_of", "rules_kept"]
+__all__ = ["FORMATS", "RULES_MAX", "Format", "Part", "check_columns", "format_of", "parts_of", "rules_kept"]
 
 RULES_MAX = 1_000
 """How many rules a map has at most: each costs its import a `join`, whoever has written it."""
 
 _NO_ORIGIN = LayerOrigin("", "", "", "", [])
+# How wide OGR makes the columns of a Shapefile that name no width, and texts at most.
+_WIDTHS = {INTEGER: 9, INTEGER_64: 18, REAL: 24, DATE: 8}
+_TEXT_WIDTH, _TEXT_WIDTH_MAX = 80, 254
 # The most bytes that a file's name has before its ending.
 _FILE_NAME = 200
 
@@ -91,6 +94,10 @@ class Format:
     """Whether OGR writes a code of a reference system that has none, by its name."""
     largest_real: float = math.inf
     """Reals are below it, or their column goes out as texts."""
+    most_columns: int = 0
+    """How many columns a layer has at most, beside those of identifiers and geometries; 0 where that has no end."""
+    record_bytes: int = 0
+    """How many bytes the values of a feature take at most together, 0 where that has no end."""
 
     @property
     def ending(self) -> str:
@@ -115,6 +122,29 @@ def parts_of(
             parts.append(part)
             losses += lost
     return parts, told, losses
+
+
+def check_columns(parts: Iterable[Part], name: str) -> None:
+    """`ExchangeError` where a format, by its name, has no room for all columns of a layer."""
+    written = FORMATS[name]
+    for part in parts:
+        count, size = len(part.layer.columns), sum(_least_bytes(part, number) for number in part.sorts)
+        what = ""
+        if written.most_columns and count > written.most_columns:
+            what = f"{count:,} columns, and the format has at most {written.most_columns:,}"
+        elif written.record_bytes and size > written.record_bytes:
+            what = f"{count:,} columns with {size:,} bytes of values for each feature, and the format has at most {written.record_bytes:,}"
+        if what:
+            raise ExchangeError(f"{part.layer.name} has {what}: drop columns in a copy of the store, or choose another format")
+
+
+def _least_bytes(part: Part, number: int) -> int:
+    """How many bytes a column of a Shapefile takes at least, as OGR makes it."""
+    sort = part.sorts[number]
+    if sort.type == STRING:
+        longest = part.survey.texts[number].most_bytes if number in part.survey.texts else 0
+        return min(max(sort.width or _TEXT_WIDTH, longest), _TEXT_WIDTH_MAX)
+    return _WIDTHS.get(sort.type, 1)
 
 
 def _origins(layers: list[FileLayer], found: Sidecar) -> tuple[dict[str, LayerOrigin], list[str]]:
@@ -345,6 +375,8 @@ FORMATS = {
         rules_max=RULES_MAX,
         kept_types=frozenset((REAL, DATE, DATE_TIME)),
         gives_codes=True,
+        # A table of SQLite has 2,000.
+        most_columns=1_998,
     ),
     "PostgreSQL": Format(
         (),
@@ -358,6 +390,8 @@ FORMATS = {
         own_columns=("ogc_fid", "wkb_geometry"),
         kept_types=frozenset((REAL, DATE, DATE_TIME, "DateTime without zone")),
         keeps_digits=True,
+        # A table has 1,600.
+        most_columns=1_598,
     ),
     "GeoJSON": Format((".geojson",), False, _geojson_losses, keeps_digits=True),
     "FlatGeobuf": Format(
@@ -383,6 +417,9 @@ FORMATS = {
         has_booleans=False,
         # A number has room for 24 characters, 15 of which are decimals.
         largest_real=1e15,
+        # As many as its head has room for, and a record behind its mark.
+        most_columns=2_046,
+        record_bytes=65_534,
     ),
 }
 """The formats by OGR's names."""

@@ -417,9 +417,19 @@ def _additions(wishes: Wishes, read: Iterable[tuple[FileLayer, LayerImport]]) ->
         origin = reading.origin()
         kept = {column.name for column in content.columns}
         gone = [column.source_name for column in origin.columns if column.name not in kept]
-        if content.features and (origin.left_out or origin.without or origin.left_columns or gone):
-            left = origin.left_out, origin.without, [*origin.left_columns, *gone], origin.cut
-            yield Addition(content.name, source, origin.source_name, *left)
+        addition = Addition(
+            content.name,
+            source,
+            origin.source_name,
+            origin.left_out,
+            origin.without,
+            [*origin.left_columns, *gone],
+            origin.cut,
+            origin.identifier_column,
+            origin.parted,
+        )
+        if content.features and addition.has_losses:
+            yield addition
 
 
 def _fitted(content: FileLayer, columns: list[Column], source_name: str, report: Report) -> FileLayer:

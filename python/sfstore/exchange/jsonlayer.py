@@ -202,6 +202,15 @@ class JsonLayer(Layer):
                 fault = str(error)
             yield Feature(identifier, geometry, found, fault)
 
+    def names(self) -> list[str]:
+        """The names of the properties, those without a value too."""
+        return list(self._survey.columns)
+
+    def identifiers(self) -> list[int] | None:
+        """The identifiers of the features; none where they are not those that the store has."""
+        survey = self._survey
+        return list(survey.identifiers) if survey.keeps_identifiers and 0 not in survey.identifiers else None
+
     def kind(self) -> int:
         return min(self._survey.kinds) if len(self._survey.kinds) == 1 else 0
 

@@ -9,21 +9,23 @@ from __future__ import annotations
 
 import contextlib
 import datetime
+import hashlib
 import re
 import struct
+from collections import Counter
 from collections.abc import Callable, Iterator, Sequence
 from decimal import Decimal
 from typing import Any, NamedTuple
 
 from sfstore.exchange import ogr
-from sfstore.exchange.columns import DATE, DATE_TIME, INTEGER, INTEGER_64, REAL, Sort, values_of
+from sfstore.exchange.columns import DATE, DATE_TIME, INTEGER, INTEGER_64, REAL, STRING, Sort, values_of
 from sfstore.exchange.formats import Part
 from sfstore.exchange.grid import Grid
 from sfstore.exchange.moments import day_of, moment_of
 from sfstore.exchange.placing import uninterrupted
 from sfstore.exchange.replacing import gone_words, keyed, several
 from sfstore.geometry import read_wkb, write_wkb
-from sfstore.sidecar import Addition, Crs, Sidecar
+from sfstore.sidecar import Addition, Crs, LayerOrigin, Sidecar
 from sfstore.storefile import FileFeature
 
 __all__ = ["write_database"]
@@ -145,6 +147,8 @@ class _Table(NamedTuple):
     """The table that is there."""
     columns: dict[str, _Known]
     """The columns that it has."""
+    keys: list[str]
+    """Those of them that name each row by themselves, the primary key first."""
 
 
 class _Export:
@@ -159,6 +163,7 @@ class _Export:
         self._asked_schema = schema
         self._crs = found.crs
         self._additions = found.additions
+        self._forgets_tables = found.forgets_tables
         self.places = Grid(*found.grid).places
         self._overwrite = overwrite
 
@@ -178,6 +183,7 @@ class _Export:
         self._run("SET CONSTRAINTS ALL IMMEDIATE")
         for export in exports:
             export.read_back()
+            export.tell_others()
         # A sequence does not go back with the transaction, so it comes last.
         for export in exports:
             export.count_on()
@@ -264,10 +270,10 @@ class _Export:
         schema, name = self._place(part.name, schema)
         oid = self._free(schema, name)
         if oid is None:
-            return _Table(schema, name, None, {})
+            return _Table(schema, name, None, {}, [])
         self.run("LOCK TABLE ONLY {} IN ACCESS EXCLUSIVE MODE", self.quoted(schema, name))
         self._check_others(oid, name)
-        table = _Table(schema, name, oid, self._columns(oid))
+        table = _Table(schema, name, oid, self._columns(oid), self._keys(oid))
         _check_columns(part, table)
         self._check_left_out(part, table)
         return table
@@ -352,14 +358,23 @@ class _Export:
     def _check_left_out(self, part: Part, table: _Table) -> None:
         """`ogr.ExchangeError` where a table has what no store has, or what its import has left out: it would be lost."""
         self._check_flat(part, table)
-        origin = part.origin
-        if origin.identifier_column not in table.columns:
-            return
         self._check_named(part, table)
+        # The rows of what has no key here are looked for when all rows are.
+        for addition in self.additions_of(part):
+            if addition.identifier_column in table.columns:
+                self._check_addition(part, table, addition)
+        if part.origin.identifier_column in table.columns:
+            self._check_import(part, table)
+
+    def _check_import(self, part: Part, table: _Table) -> None:
+        """`ogr.ExchangeError` where a table has features, or values of them, that its import has left out."""
+        origin = part.origin
         lost = [key for key, *_ in self._rows_of(table, origin.identifier_column, [], origin.left_out)]
         if lost:
             raise _left_out(part, f"features that its import has left out: {several(lost)}")
-        self._check_additions(part, table)
+        lost = [key for key, *_ in self._rows_of(table, origin.identifier_column, [], origin.parted)]
+        if lost:
+            raise _left_out(part, f"features of whose collections its import has left out members: {several(lost)}")
         columns = [_Column(number, part.columns[number], sort) for number, sort in part.sorts.items()]
         # What the database computes is not lost.
         columns = [column for column in columns if column.name in table.columns and not table.columns[column.name].is_computed]
@@ -373,26 +388,26 @@ class _Export:
 
     def _check_named(self, part: Part, table: _Table) -> None:
         """`ogr.ExchangeError` where the side-car does not name all that was left out of a table, and the table has rows: nobody knows which they are."""
-        is_cut = part.origin.cut or any(each.cut for each in self._additions_of(part))
+        is_cut = self._forgets_tables or part.origin.cut or any(each.cut for each in self.additions_of(part))
         if is_cut and self._run(self.format("SELECT 1 FROM {} LIMIT 1", self.quoted(table.schema, table.name))).fetchall():
             raise ogr.ExchangeError(
                 f"the table {ogr.printable(part.name)} may have features, or values of them, that an import has left out: they are more "
                 "than the side-car has room to name. They would be lost: empty the table first, or name another database or schema"
             )
 
-    def _additions_of(self, part: Part) -> list[Addition]:
-        """What was left out of a layer's table when it was added to the layer."""
-        return [each for each in self._additions if (each.name, each.source, each.source_name) == (part.layer.name, "", part.name)]
+    def additions_of(self, part: Part) -> list[Addition]:
+        """What was left out of a layer's table when it was added to a layer, whichever that was: what is lost, the table has."""
+        return [each for each in self._additions if (each.source, each.source_name) == ("", part.name)]
 
-    def _check_additions(self, part: Part, table: _Table) -> None:
-        """`ogr.ExchangeError` where a table has features that an addition of it has left out, as a whole or values of them.
+    def _check_addition(self, part: Part, table: _Table, addition: Addition) -> None:
+        """`ogr.ExchangeError` where a table has features that an addition of it has left out, as a whole or in part.
 
         What it has taken has other keys in the store.
         """
-        wanted = {key for each in self._additions_of(part) for key in (*each.left_out, *each.without)}
-        lost = [key for key, *_ in self._rows_of(table, part.origin.identifier_column, [], sorted(wanted))]
+        wanted = sorted({*addition.left_out, *addition.without, *addition.parted})
+        lost = [key for key, *_ in self._rows_of(table, addition.identifier_column, [], wanted)]
         if lost:
-            raise _left_out(part, f"features of which an addition has left out all or some values: {several(lost)}")
+            raise _left_out(part, f"features that an addition has left out, as a whole or in part: {several(lost)}")
 
     def _check_flat(self, part: Part, table: _Table) -> None:
         """`ogr.ExchangeError` where geometries of a table have Z or M."""
@@ -424,6 +439,16 @@ class _Export:
             oid,
         )
         return {name: _Known(*rest) for name, *rest in rows}
+
+    def _keys(self, oid: int) -> list[str]:
+        """The columns of a table that name each row by themselves, whatever their type."""
+        rows = self.rows(
+            "SELECT attname FROM pg_catalog.pg_index JOIN pg_catalog.pg_attribute ON attrelid = indrelid AND attnum = indkey[0] "
+            "WHERE indrelid = %s::oid AND indisunique AND indisvalid AND indnkeyatts = 1 AND indpred IS NULL AND attnotnull "
+            "ORDER BY indisprimary DESC, attnum",
+            oid,
+        )
+        return [str(name) for [name] in rows]
 
     def _srid(self, crs: Crs | None) -> int:
         """PostGIS' number of a reference system, which is added where PostGIS does not know it."""
@@ -500,6 +525,12 @@ class _LayerExport:
         self._other_values: dict[str, list[str]] = {}
         self._padded = {name for name, column in table.columns.items() if column.is_padded}
         self._unzoned = {name for name, column in table.columns.items() if column.is_unzoned}
+        self._additions = export.additions_of(part)
+        lefts: list[LayerOrigin | Addition] = [part.origin, *self._additions]
+        unnamed = [each for each in lefts if each.identifier_column not in table.columns]
+        self._unnamed = any(each.left_out or each.without or each.parted for each in unnamed)
+        self._has_unnamed_parts = any(each.parted for each in unnamed)
+        self._before: Counter[bytes] | None = None
 
     def write(self) -> None:
         """Makes the table or empties it, and fills it."""
@@ -533,7 +564,7 @@ class _LayerExport:
 
     def _empty(self) -> None:
         """Takes the rows away, and adds the columns that are missing."""
-        self._tell_gone()
+        self._look_for_gone()
         self._export.run("TRUNCATE ONLY {}", self._name)
         if self._part.identifier_column not in self._table.columns:
             # The table may have a key of its own.
@@ -542,18 +573,92 @@ class _LayerExport:
             if column.name not in self._table.columns:
                 self._export.run("ALTER TABLE {} ADD COLUMN {}", self._name, self._definition(column))
 
-    def _tell_gone(self) -> None:
-        """Says which rows the store has not: they were deleted there, or somebody else has added them."""
-        export, part = self._export, self._part
-        keys = [name for name in (part.origin.identifier_column, part.identifier_column) if name in self._table.columns]
-        if not keys:
+    def _look_for_gone(self) -> None:
+        """Says which rows the store has not: they were deleted there, or somebody else has added them.
+
+        `ogr.ExchangeError` where they may be those that an import has left out. Where no key names rows, `tell_others` looks for them.
+        """
+        key, shown = self._key(), ogr.printable(self._table.name)
+        if not key:
+            self._before = Counter(self._wholes())
             return
-        known = {key for key, _ in keyed(part, keys[0])}
-        quoted = export.quoted(keys[0])
-        with export.reading(export.format("SELECT {}::text FROM {} AS t ORDER BY t.{}", quoted, self._name, quoted)) as rows:
-            gone = [str(key) for [key] in rows if key not in known]
+        gone, emptied = self._strange_rows(key)
+        if self._unnamed and gone:
+            raise _left_out(self._part, f"rows that the store has not, and may be those that an import has left out: {several(gone)}")
+        if self._unnamed and emptied:
+            raise _left_out(self._part, f"values where the store has none, and an import has left out some: {several(emptied)}")
+        if self._has_unnamed_parts and self._collections():
+            raise _left_out(self._part, f"{self._collections():,} collections, and an import has left out members of some")
         if gone:
-            export.say(f"the table {ogr.printable(self._table.name)} {gone_words(gone)}")
+            self._export.say(f"the table {shown} {gone_words(gone)}")
+
+    def _collections(self) -> int:
+        """How many geometries of the table are collections, as none of the store are."""
+        export = self._export
+        shape = export.format("{}::{}", export.quoted(self._part.geometry_column), export.of_postgis("geometry"))
+        asked = export.format("SELECT count(*) FROM {} WHERE {}({}) = 'GEOMETRYCOLLECTION'", self._name, export.of_postgis("geometrytype"), shape)
+        with export.reading(asked) as rows:
+            [[count]] = rows
+        return int(count)
+
+    def _key(self) -> str:
+        """The column that names the rows of the table and the features of the store; empty where there is none.
+
+        It is that of the import, or one that the store has too, or that of the store's identifiers. What was added has other identifiers
+        there: where the table had none then, it has those of the store by an export, which has replaced all rows.
+        """
+        part, table = self._part, self._table
+        # Of other types two texts may be one value.
+        plain = {column.name for column in self._columns if column.sort.type in (INTEGER, INTEGER_64, STRING) and column.sort.subtype != "Boolean"}
+        shared = [name for name in table.keys if name in plain and not table.columns[name].is_padded]
+        keys = [part.origin.identifier_column, *shared, part.identifier_column]
+        if self._additions:
+            keys = [*shared, *([] if any(each.identifier_column for each in self._additions) else [part.identifier_column])]
+        return next((name for name in keys if name in table.columns), "")
+
+    def _strange_rows(self, key: str) -> tuple[list[str], list[str]]:
+        """The keys of the rows that the store has not, and those of a value where the store has none, each with its column."""
+        export = self._export
+        # What the database computes is not lost.
+        columns = [each for each in self._columns if each.name in self._table.columns and each.name not in self._computed]
+        known = dict(keyed(self._part, key))
+        texts = export.plain(", ").join(export.format("t.{}::text", export.quoted(name)) for name in (key, *(each.name for each in columns)))
+        gone, emptied = [], []
+        with export.reading(export.format("SELECT {} FROM {} AS t ORDER BY t.{}", texts, self._name, export.quoted(key))) as rows:
+            for name, *found in rows:
+                values = known.get(str(name))
+                if values is None:
+                    gone.append(str(name))
+                    continue
+                lost = [each.name for each, text in zip(columns, found) if text is not None and values.get(each.number) is None]
+                emptied += [f"{column} of {name}" for column in lost]
+        return gone, emptied
+
+    def _wholes(self) -> Iterator[bytes]:
+        """A digest of all that each row of the table has, but of what the store or the database gives it."""
+        export, part = self._export, self._part
+        texts = [export.format("{}::text", export.quoted(name)) for name in self._table.columns if name not in (*self._computed, part.identifier_column)]
+        with export.reading(export.format("SELECT {} FROM {}", export.plain(", ").join(texts), self._name)) as rows:
+            for row in rows:
+                yield hashlib.blake2b(repr(row).encode("utf-8", "surrogatepass"), digest_size=16).digest()
+
+    def tell_others(self) -> None:
+        """Says how many rows of a table are not in the store as they stood there, where no key says which.
+
+        `ogr.ExchangeError` where they may be those that an import has left out.
+        """
+        if self._before is None:
+            return
+        self._before.subtract(self._wholes())
+        count = sum(number for number in self._before.values() if number > 0)
+        what = f"{count:,} rows that are not in the store as in the table" if count > 1 else "1 row that is not in the store as in the table"
+        if count and self._unnamed:
+            raise ogr.ExchangeError(
+                f"the table {ogr.printable(self._part.name)} has {what}, and may be what an import has left out. It would be lost: "
+                "empty the table first, or name another database or schema"
+            )
+        if count:
+            self._export.say(f"the table {ogr.printable(self._table.name)} has {what}, of others or edited in the store: removed")
 
     def _rows(self) -> Iterator[bytes]:
         """The features in the text format of COPY, some at a time."""

@@ -101,6 +101,7 @@ class LayerImport:
         self._rounding = Rounding(taking.rounds)
         self._flattened = 0
         self._parted: list[int] = []
+        self._broken: set[int] = set()
         self._types = types or {}
         self._names: Mapping[str, str] = left.names if left else {}
         known = types if types is not None else left.types if left else {}
@@ -164,18 +165,20 @@ class LayerImport:
         """What the side-car keeps of the layer."""
         told = self._report.identifiers(self._source_name)
         taken = set(map(self._source_of, self._features.ids)) if told else set()
-        left_out, without = sorted(told - taken), sorted(told & taken)
+        lefts = told - taken, (told & taken) - self._broken, self._broken & taken
+        left_out, without, parted = (sorted(each)[:LEFT_MAX] for each in lefts)
         return LayerOrigin(
             self._name,
             kept_name(self._layer.name, self._name),
             kept_name(self._layer.identifier_column, ""),
             kept_name(self._layer.geometry_column, ""),
             self._origins,
-            left_out[:LEFT_MAX],
-            without[:LEFT_MAX],
+            left_out,
+            without,
             [kept_name(name, "") if left.has_values else f"the domain of {kept_name(name, '')}" for left in self._fields.left for name in left.names]
             + ([_NO_PLACE] if self._flattened else []),
-            max(len(left_out), len(without)) > LEFT_MAX,
+            max(map(len, lefts)) > LEFT_MAX,
+            parted,
         )
 
     def _batches(self) -> Iterator[list[_Candidate]]:
@@ -241,7 +244,7 @@ class LayerImport:
             reason, detail = "off the grid", str(place)
         except Outside as place:
             reason, detail = "too far from the grid's origin", str(place)
-        self._problem(identifier, reason, _named(name, detail), source)
+        self._lost(identifier, reason, _named(name, detail), source)
         return None
 
     def _fitted(self, shape: Shape) -> Shape:
@@ -294,7 +297,12 @@ class LayerImport:
         reason = f"refused {refused.number} {refused.name}, {words_of(refused.number).reason}"
         fault = fault_at(candidate.shape, refused)
         detail = fault.words.format(*map(MapUnits(*self._grid.words).point_text, fault.points)) if fault else ""
-        self._problem(candidate.identifier, reason, _named(candidate.name, detail), candidate.source)
+        self._lost(candidate.identifier, reason, _named(candidate.name, detail), candidate.source)
+
+    def _lost(self, identifier: int, reason: str, detail: str, source: bytes) -> None:
+        """Reports a geometry that is left out: that of a feature, or a member of its collection."""
+        self._broken.add(identifier)
+        self._problem(identifier, reason, detail, source)
 
     def _make_multi(self) -> None:
         """Makes Multi forms of all features, where a Shapefile has both: it tells them apart by their parts alone."""

@@ -12,7 +12,7 @@ from sfstore.exchange.columns import values_of
 from sfstore.exchange.formats import Part
 from sfstore.exchange.views import check_end
 
-__all__ = ["check_none_lost", "gone_words", "keyed", "several"]
+__all__ = ["check_none", "check_none_lost", "gone_words", "keyed", "several"]
 
 # How a file of SQLite begins.
 _SQLITE = b"SQLite format 3\0"
@@ -43,7 +43,7 @@ def check_none_lost(path: str, parts: Sequence[Part], say: Callable[[str], objec
         # It is none, or not there.
         return
     ours = {part.name.casefold(): part for part in parts}
-    _check_none(path, "tables", [name for name in names if name.casefold() not in ours])
+    check_none(path, "tables", [name for name in names if name.casefold() not in ours])
     kept = [(name, ours[name.casefold()]) for name in names]
     try:
         columns = [f"{name}.{column}" for name, part in kept for column in _columns_lost(old, name, part)]
@@ -51,7 +51,7 @@ def check_none_lost(path: str, parts: Sequence[Part], say: Callable[[str], objec
         unnamed = [name for name, _ in kept if _has_unnamed_rows(old, name)]
     except RuntimeError as error:
         raise _unread(path, error) from None
-    _check_none(path, "columns", columns)
+    check_none(path, "columns", columns)
     for name, gone in rows:
         if gone:
             say(f"the layer {ogr.printable(name)} of {path} {gone_words(gone)}")
@@ -78,7 +78,8 @@ def _unread(path: str, error: RuntimeError) -> ogr.ExchangeError:
     return ogr.ExchangeError(f"{path} can't be read, and may have what would be lost: {error}. Take it away, or name another file")
 
 
-def _check_none(path: str, what: str, lost: list[str]) -> None:
+def check_none(path: str, what: str, lost: list[str]) -> None:
+    """`ogr.ExchangeError` where a file has something that would be lost."""
     if lost:
         raise ogr.ExchangeError(
             f"{path} has {what} that the new one has not, and they would be lost: {ogr.printable(', '.join(lost))}. "

@@ -18,7 +18,7 @@ from sfstore.exchange.columns import DATE, INTEGER, INTEGER_64, REAL, STRING
 from sfstore.exchange.moments import day_of
 from sfstore.exchange.vsi import VsiFile
 
-__all__ = ["Odd", "beside", "deleted_records", "foreign_columns", "index_fault", "odd_values", "table_fault"]
+__all__ = ["Odd", "beside", "deleted_records", "foreign_columns", "index_fault", "odd_values", "set_faults", "table_fault"]
 
 # How much of a table is read at a time.
 _CHUNK = 1 << 20
@@ -35,6 +35,8 @@ _DAY = re.compile(rb"[ \0]*(?:[0-9]{1,8}[ \0]*)?|[0-9]{2}/[0-9]{2}/[0-9]{4}")
 _TEXT = re.compile(rb"[^\0]*[ \0]*", re.DOTALL)
 _FORMS = {INTEGER: _WHOLE, INTEGER_64: _WHOLE, REAL: _REAL, DATE: _DAY, STRING: _TEXT}
 _NO_DAY = "00000000"
+# How many records are shown.
+_SHOWN = 3
 # So many digits each double has, and more than a number of a table.
 _DIGITS, _MANY = 15, Context(prec=1_000)
 
@@ -127,13 +129,65 @@ def index_fault(source: Any, name: str) -> str:
         return ""
     module, _, _ = ogr.gdal()
     size = int(module.VSIStatL(shapes).size)
+    named = _SHAPES + sum(8 + entry.length for entry in _entries(index))
+    return "" if named == size else f"{named:,} of {size:,} bytes"
+
+
+class _Entry(NamedTuple):
+    """Where the index of a Shapefile finds a shape: behind so many bytes, and behind 8 more, so many."""
+
+    place: int
+    length: int
+
+
+def _entries(index: str) -> list[_Entry]:
     with VsiFile(index) as file:
         head = file.read(_SHAPES)
         # OGR reads as much as the header says.
-        entries = file.read(max(int.from_bytes(head[24:28], "big") * 2 - _SHAPES, 0))
-    lengths = (int.from_bytes(entries[at + 4 : at + 8], "big") * 2 for at in range(0, len(entries) - 7, 8))
-    named = _SHAPES + sum(8 + length for length in lengths)
-    return "" if named == size else f"{named:,} of {size:,} bytes"
+        found = file.read(max(int.from_bytes(head[24:28], "big") * 2 - _SHAPES, 0))
+    starts = range(0, len(found) - 7, 8)
+    return [_Entry(*(int.from_bytes(found[at + part : at + part + 4], "big") * 2 for part in (0, 4))) for at in starts]
+
+
+def set_faults(source: Any, name: str) -> Iterator[tuple[str, str]]:
+    """What shows that the files of a Shapefile are not of one another, each with a detail: values are at other shapes then."""
+    shapes, index, table = (beside(source, name, ending) for ending in (".shp", ".shx", ".dbf"))
+    entries = _entries(index) if shapes and index else []
+    if entries and (others := _other_shapes(shapes, entries)):
+        yield "its .shx finds other shapes in its .shp than those of its records", others
+    if entries and table:
+        with VsiFile(table) as file:
+            count = int.from_bytes(file.read(_TABLE)[4:8], "little")
+        if count > len(entries):
+            yield "its .dbf has more records than there are shapes, and values may be at others than their own", f"{count:,} records, {len(entries):,} shapes"
+
+
+def _other_shapes(shapes: str, entries: list[_Entry]) -> str:
+    """The first records to which an index finds a shape of another number, or length, in words; or nothing.
+
+    A shape has its number from 1 on. Some programs write it from 0 on, or the same for all, which says nothing.
+    """
+    numbers: dict[int, tuple[int, int]] = {}
+    with VsiFile(shapes) as file:
+        at = 0
+        for place in sorted({entry.place for entry in entries}):
+            numbers[place] = 0, 0
+            if place < at:
+                # It begins within another one.
+                continue
+            file.skip(place - at)
+            head = file.read(8)
+            numbers[place] = int.from_bytes(head[:4], "big"), int.from_bytes(head[4:], "big") * 2
+            at = place + len(head)
+    found = [numbers[entry.place][0] for entry in entries]
+    says_nothing = len(set(found)) == 1 or all(number == at for at, number in enumerate(found))
+    others = [
+        f"record {at} has shape {number}"
+        for at, (number, entry) in enumerate(zip(found, entries), 1)
+        if (number != at and not says_nothing) or numbers[entry.place][1] != entry.length
+    ]
+    more = f" and {len(others) - _SHOWN:,} more" if len(others) > _SHOWN else ""
+    return ", ".join(others[:_SHOWN]) + more
 
 
 def beside(source: Any, name: str, ending: str) -> str:

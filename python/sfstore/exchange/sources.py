@@ -12,12 +12,12 @@ from typing import Any, NamedTuple
 
 from sfstore.exchange import jsontext, ogr, wayback
 from sfstore.exchange.archives import check_size, is_zip
-from sfstore.exchange.asking import tables_of
+from sfstore.exchange.asking import literal, rows_of, tables_of
 from sfstore.exchange.besides import besides
 from sfstore.exchange.fields import Fields
 from sfstore.exchange.jsonlayer import JsonLayer
 from sfstore.exchange.layers import STRANGER, Feature, Layer, Lost, Source
-from sfstore.exchange.shapefiles import beside, deleted_records, index_fault, table_fault
+from sfstore.exchange.shapefiles import beside, deleted_records, index_fault, set_faults, table_fault
 from sfstore.exchange.srids import strangers
 from sfstore.exchange.stamps import BESIDE, archive_of, changed, mode_of, stamps_of
 from sfstore.exchange.tables import fault_of
@@ -40,6 +40,12 @@ _PLAIN_TABLES = """
     AND NOT EXISTS (SELECT FROM pg_catalog.pg_attribute
         WHERE attrelid = pg_class.oid AND NOT attisdropped AND format_type(atttypid, NULL) ~ '(^|[.])(geometry|geography)$')
     ORDER BY 1
+"""
+# The tables that inherit from a table of a database, by names as OGR has them: its rows are read with theirs.
+_HEIRS = """
+    SELECT inhrelid::pg_catalog.regclass::text AS name FROM pg_catalog.pg_inherits JOIN pg_catalog.pg_class AS c ON c.oid = inhparent
+    JOIN pg_catalog.pg_namespace AS n ON n.oid = c.relnamespace
+    WHERE c.relkind = 'r' AND CASE nspname WHEN current_schema() THEN relname::text ELSE nspname || '.' || relname END = {} ORDER BY 1
 """
 # That all that is read of all layers is of one moment: what one transaction takes from one to another is in one of them.
 # And how a database writes values, whatever server, database and role have chosen.
@@ -313,6 +319,8 @@ class OgrLayer(Layer):
         unnamed = index_fault(self._data, self.name) if self.format == _SHAPEFILE else ""
         if unnamed:
             yield Lost("its .shx does not name all of its .shp, and no more", unnamed)
+        for reason, detail in set_faults(self._data, self.name) if self.format == _SHAPEFILE else ():
+            yield Lost(reason, detail)
         has_columns = self._layer.GetLayerDefn().GetFieldCount() > 0
         fault = table_fault(self._data, self.name) if self.format == _SHAPEFILE and not has_columns else ""
         if fault:
@@ -320,6 +328,9 @@ class OgrLayer(Layer):
         told = self._layer.GetMetadata(_SHAPEFILE_METADATA) if self.format == _SHAPEFILE else {}
         if told.get("CPG_VALUE") and not told.get("SOURCE_ENCODING"):
             yield Lost("its texts are read as UTF-8, as their encoding is unknown", f"its .cpg says {told['CPG_VALUE']:.40}")
+        heirs = rows_of(self._data, _HEIRS.format(literal(self.name))) if self.format == _DATABASE else []
+        if heirs:
+            yield Lost("rows of tables that inherit from it are among its own, and again in the layers of these", ", ".join(name for (name,) in heirs))
         definition = self._layer.GetLayerDefn()
         further = [definition.GetGeomFieldDefn(at).GetName() for at in range(1, definition.GetGeomFieldCount())]
         if further:

@@ -126,6 +126,8 @@ class _LayerExport:
         for one in ({1}, {4}, {2, 5}, {3, 6}):
             if codes <= one:
                 return min(one)
+        if not self._part.survey.codes:
+            raise ogr.ExchangeError(f"{self._part.layer.name} is empty and takes features of any kind: a Shapefile has one of points, lines or areas")
         kinds = ", ".join(KINDS[code] for code in sorted(codes))
         raise ogr.ExchangeError(
             f"{self._part.layer.name} has features of several kinds ({kinds}): no Shapefile has these"

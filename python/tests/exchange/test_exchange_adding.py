@@ -197,6 +197,27 @@ class Added(AddingCase):
         self.assertEqual(sidecar.read(str(self.store)).additions, found.additions)
         self.assertEqual(len(found.additions), 1)
 
+    def test_files_that_a_side_car_has_no_room_for_are_said_to_be_more(self):
+        self.brought(wells=[(1, "POINT (2 2)"), (2, FAR)])
+        self.assertEqual(self.add()[0], 1)
+        Store(self.store, journal=True, program=PROGRAM).close()
+        found = sidecar.read(str(self.store))
+        [first] = found.additions
+        others = [replace(first, source=f"{number}.gpkg") for number in range(999)]
+        # What is added again is the last one.
+        full = found.with_additions(others).with_additions([first])
+        self.assertEqual([full.additions[0].source, full.additions[-1], full.forgets_files], ["0.gpkg", first, False])
+        sidecar.write(str(self.store), full.with_additions([replace(first, source="new.gpkg")]), found.digests)
+        found = sidecar.read(str(self.store))
+        self.assertEqual([found.additions[0].source, len(found.additions), found.forgets_files, found.forgets_tables], ["1.gpkg", 1_000, True, False])
+        words = "files were added of which the side-car has no room to name what was left out. What is replaced may have it\n"
+        self.assertNotIn(words, give_back(self.store, self.target)[2])
+        self.assertIn(words, give_back(self.store, self.target, "--overwrite")[2])
+        # The mark stays with what is saved.
+        with Store(self.store, journal=True, program=PROGRAM) as store:
+            store.add("wells", "POINT (5 5)")
+        self.assertTrue(sidecar.read(str(self.store)).forgets_files)
+
     def test_nothing_is_noted_where_nothing_is_added_or_nothing_left_out(self):
         before = sidecar.read(str(self.store))
         self.brought(wells=[(1, "POINT (2 2)")])

@@ -2,6 +2,7 @@
 
 from __future__ import annotations
 
+import os
 import sqlite3
 import unittest
 from pathlib import Path
@@ -11,7 +12,7 @@ from support import PROGRAM
 
 from test_exchange import GRID, HAS_GDAL, ExchangeCase, bring_in, give_back
 
-from sfstore import Store
+from sfstore import Store, files
 from sfstore.language import INT_MAX, INT_MIN, TEXT_MAX
 
 # Of each type of a GeoPackage: the type of the store's column, what a row of the GeoPackage has, and how the store shows it.
@@ -80,6 +81,49 @@ class Limits(ExchangeCase):
             self.assertEqual(rows_of(target), given)
             self.assertEqual(bring_in(target, self.store, *GRID, "--overwrite")[::2], (0, ""))
             self.assertEqual(self.store.read_bytes(), kept)
+
+    def test_a_layer_of_more_columns_than_a_format_has_is_refused_before_anything_is_written(self) -> None:
+        for target, columns, value, words in (
+            ("o.gpkg", 1_999, "", "1,999 columns, and the format has at most 1,998"),
+            ("PG:dbname=none host=/none", 1_599, "", "1,599 columns, and the format has at most 1,598"),
+            ("o.shp", 2_047, "", "2,047 columns, and the format has at most 2,046"),
+            ("o.shp", 820, "x", "820 columns with 65,600 bytes of values for each feature, and the format has at most 65,534"),
+            ("o.shp", 259, "x" * 300, "259 columns with 65,786 bytes of values for each feature, and the format has at most 65,534"),
+        ):
+            with self.subTest(target, columns=columns):
+                self.store.unlink(missing_ok=True)
+                with Store(PROGRAM, save=self.store) as store:
+                    store.run_all(["layer add w point", *(f"column add w c{at} text" for at in range(columns)), "add w POINT (1 2)"])
+                    store.run_all([f"set w 1 c{at} '{value}'" for at in range(columns) if value])
+                place = target if target.startswith("PG:") else self.folder / target
+                status, out, err = give_back(self.store, place, "--grid", "0", "0", "1")
+                self.assertEqual((status, out), (3, ""))
+                self.assertEqual(err, f"sfstore-export: w has {words}: drop columns in a copy of the store, or choose another format\n")
+
+    def test_an_empty_layer_of_any_kind_is_no_shapefile(self) -> None:
+        with Store(PROGRAM, save=self.store) as store:
+            store.run_all(["layer add w any"])
+        err = give_back(self.store, self.folder / "w.shp", "--grid", "0", "0", "1")[2]
+        self.assertIn("sfstore-export: w is empty and takes features of any kind: a Shapefile has one of points, lines or areas\n", err)
+
+    def test_a_store_of_whatever_name_that_comes_in_is_saved_and_goes_out(self) -> None:
+        taken = []
+        for count in range(108, 122):
+            path = self.folder / f"{'Ж' * count}.sfs"
+            if bring_in(self.source, path, *GRID, "--layer", "w")[0] == 0:
+                taken.append(count)
+                with Store(path, journal=True, program=PROGRAM) as store:
+                    store.add("w", "POINT (5 5)")
+                self.assertEqual(give_back(path, self.folder / f"{count}.gpkg")[::2], (0, ""))
+        self.assertEqual(taken, list(range(108, 118)))
+
+    def test_what_is_made_beside_files_of_long_names_is_told_apart(self) -> None:
+        first, second = (str(self.folder / ("w" * 240 + end)) for end in ("a", "b"))
+        made = [files.made_beside(path) for path in (first, second)]
+        for _, file in made:
+            os.close(file)
+        files.remove_leftovers(first)
+        self.assertEqual([os.path.exists(path) for path, _ in made], [False, True])
 
 
 if __name__ == "__main__":

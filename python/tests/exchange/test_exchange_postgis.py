@@ -10,6 +10,7 @@ import subprocess
 import sys
 import tempfile
 import unittest
+from dataclasses import replace
 from decimal import Decimal
 from importlib.util import find_spec
 from pathlib import Path
@@ -188,6 +189,14 @@ class Others(DatabaseCase):
         err = self.refused(self.wells(), self.target, *PLAIN, "--overwrite")
         self.assertIn("deep inherits from wells", err)
         self.assertEqual(self.ask("SELECT count(*) FROM wells"), [(2,)])
+
+    def test_rows_that_a_table_has_of_those_that_inherit_from_it_are_reported(self):
+        self.ask("CREATE SCHEMA maps; CREATE TABLE maps.roads (gid serial PRIMARY KEY, geom geometry(Point)); CREATE TABLE highways (lanes int) INHERITS (maps.roads); "
+                 "INSERT INTO maps.roads (geom) VALUES ('POINT(1 2)'); INSERT INTO highways (geom) VALUES ('POINT(3 4)')")
+        status, out, err = bring_in(self.target, self.store, *GRID)
+        self.assertEqual((status, err), (1, ""), out)
+        self.assertIn("maps.roads: 2 features read, 2 taken\n", out)
+        self.assertEqual(out.count("  rows of tables that inherit from it are among its own, and again in the layers of these: highways\n"), 1)
 
     def test_columns_of_others_are_not_lost(self):
         self.written(self.wells(), self.target, *PLAIN)
@@ -369,10 +378,111 @@ class Others(DatabaseCase):
         self.assertEqual(bring_in(self.target, self.store, "--add")[0], 1)
         Store(self.store, journal=True, program=PROGRAM).close()
         err = self.refused(self.store, self.target, "--overwrite")
-        self.assertIn("the table w has features of which an addition has left out all or some values: 2. They would be lost", err)
+        self.assertIn("the table w has features that an addition has left out, as a whole or in part: 2. They would be lost", err)
         self.assertEqual(self.ask("SELECT * FROM w ORDER BY id"), before)
         self.ask("DELETE FROM w WHERE id = 2")
         self.written(self.store, self.target, "--overwrite")
+
+    def test_members_of_collections_that_an_import_has_left_out_stay(self):
+        rows = ("INSERT INTO w (n, geom) VALUES (1, 'GEOMETRYCOLLECTION(POINT(1 1), POINT(1.5 2))'), (2, 'POINT(2 2)'), "
+                "(3, 'GEOMETRYCOLLECTION(POINT(1 1), LINESTRING(3 3, 3 3))')")
+        for key, words in (("id serial PRIMARY KEY, ", "has features of whose collections its import has left out members: 1, 3. "),
+                           ("", "has 2 rows that are not in the store as in the table, and may be what an import has left out"),
+                           ("id text UNIQUE NOT NULL DEFAULT gen_random_uuid(), ", "has 2 collections, and an import has left out members of some. ")):
+            with self.subTest(key):
+                self.ask(f"DROP TABLE IF EXISTS w; CREATE TABLE w ({key}n int, geom geometry); {rows}")
+                status, out, _ = bring_in(self.target, self.store, *PLAIN[:4], "--part-collections", "--overwrite")
+                self.assertEqual(status, 1, out)
+                before = self.ask("SELECT n, ST_AsText(geom) FROM w ORDER BY n")
+                self.assertIn(words, self.refused(self.store, self.target, "--overwrite"))
+                self.assertEqual(self.ask("SELECT n, ST_AsText(geom) FROM w ORDER BY n"), before)
+        # An addition leaves members out too.
+        self.ask(f"DROP TABLE w; CREATE TABLE w (id serial PRIMARY KEY, n int, geom geometry); INSERT INTO w (n, geom) VALUES (7, 'POINT(7 7)')")
+        self.assertEqual(bring_in(self.target, self.store, *PLAIN[:4], "--overwrite")[0], 0)
+        self.ask(f"DELETE FROM w; {rows}")
+        self.assertEqual(bring_in(self.target, self.store, "--add", "--part-collections")[0], 1)
+        Store(self.store, journal=True, program=PROGRAM).close()
+        self.assertIn("has features that an addition has left out, as a whole or in part: 2, 4. ", self.refused(self.store, self.target, "--overwrite"))
+        said = "w is without what its import has left out: parts of 2 features. What is replaced may have them"
+        self.ask(f"DELETE FROM w; {rows}")
+        bring_in(self.target, self.store, *PLAIN[:4], "--part-collections", "--overwrite")
+        self.written(self.store, self.folder / "w.gpkg")
+        self.assertIn(said, self.written(self.store, self.folder / "w.gpkg", "--overwrite"))
+
+    def added(self, store, status=1):
+        """A store with a grid, to which the database was added."""
+        self.written(store, self.folder / "one.gpkg", *PLAIN, *(["--overwrite"] if (self.folder / "one.gpkg").exists() else []))
+        self.assertEqual(bring_in(self.target, store, "--add")[0], status)
+        Store(store, journal=True, program=PROGRAM).close()
+        return store
+
+    def test_rows_that_an_addition_to_a_layer_made_by_hand_has_left_out_stay(self):
+        for name, key in (("ogc_fid", "ogc_fid serial PRIMARY KEY, "), ("none", "")):
+            self.ask(f"DROP TABLE IF EXISTS wells; CREATE TABLE wells ({key}depth int, wkb_geometry geometry); "
+                     "INSERT INTO wells (depth, wkb_geometry) VALUES (1, 'SRID=25832;POINT(1 2)'), (2, 'SRID=25832;POINT(1.5 3)')")
+            before = self.ask("SELECT wells::text FROM wells ORDER BY depth")
+            # The store has a well 1 of its own, and the row 1 is 2 there.
+            store = self.added(self.wells())
+            err = self.refused(store, self.target, "--overwrite")
+            self.assertIn("has features that an addition has left out, as a whole or in part: 2. " if key else
+                          "has 1 row that is not in the store as in the table, and may be what an import has left out. ", err)
+            self.assertEqual(self.ask("SELECT wells::text FROM wells ORDER BY depth"), before, name)
+            self.ask("DELETE FROM wells WHERE depth = 2; INSERT INTO wells (depth, wkb_geometry) VALUES (9, 'SRID=25832;POINT(9 9)')")
+            if key:
+                # It has the number of another one of the store.
+                self.ask("DELETE FROM wells WHERE depth = 1; UPDATE wells SET ogc_fid = 1 WHERE depth = 9")
+                err = self.written(store, self.target, "--overwrite")
+                self.assertIn("the table wells has 1 row that is not in the store as in the table, of others or edited in the store: removed\n", err)
+            else:
+                self.refused(store, self.target, "--overwrite")
+                self.ask("DELETE FROM wells WHERE depth = 9")
+                self.written(store, self.target, "--overwrite")
+                # From now on it has keys.
+                self.ask("DELETE FROM wells WHERE ogc_fid = 2")
+                with Store(store, journal=True, program=PROGRAM) as opened:
+                    opened.set("wells", 1, "depth", 8)
+                self.assertNotIn("wells has", self.written(store, self.target, "--overwrite"))
+            self.assertEqual(self.ask("SELECT count(*) FROM wells"), [(2,)])
+
+    def keyless(self, key, rows="(1, 'a', 'POINT(1 2)'), (2, 'b', 'POINT(3 4)')"):
+        """A table that no whole numbers name the rows of, in a store."""
+        self.ask(f"DROP TABLE IF EXISTS w; CREATE TABLE w ({key}n int, t text, geom geometry); INSERT INTO w (n, t, geom) VALUES {rows}")
+        return bring_in(self.target, self.store, *PLAIN[:4], "--overwrite")
+
+    def test_rows_of_a_table_without_a_key_of_whole_numbers_that_its_import_has_left_out_stay(self):
+        rows = "(1, 'a', 'POINT(1 2)'), (2, 'b', 'POINT(1.5 2)'), (3, 'c', 'CIRCULARSTRING(0 0, 1 1, 2 0)'), (4, 'd', NULL)"
+        for key in ("", "id uuid PRIMARY KEY DEFAULT gen_random_uuid(), ", "id text UNIQUE NOT NULL DEFAULT gen_random_uuid(), ", "x int, y int, UNIQUE (x, y), "):
+            with self.subTest(key):
+                status, out, _ = self.keyless(key, rows)
+                self.assertIn("w: 4 features read, 1 taken", out)
+                before = self.ask("SELECT w::text FROM w ORDER BY n")
+                err = self.refused(self.store, self.target, "--overwrite")
+                self.assertIn("the table w has 3 rows that are not in the store as in the table" if "id" not in key else "may be those that an import has left out: ", err)
+                self.assertEqual(self.ask("SELECT w::text FROM w ORDER BY n"), before)
+                self.ask("DELETE FROM w WHERE n > 1")
+                self.assertNotIn("removed", self.written(self.store, self.target, "--overwrite"))
+                with Store(self.store, journal=True, program=PROGRAM) as store:
+                    store.set("w", 1, "n", 7)
+                self.written(self.store, self.target, "--overwrite")
+                self.assertEqual(self.ask("SELECT n, t FROM w"), [(7, "a")])
+
+    def test_values_of_a_table_without_a_key_of_whole_numbers_that_its_import_has_left_out_stay(self):
+        for key in ("", "id uuid PRIMARY KEY DEFAULT gen_random_uuid(), "):
+            self.ask(f"DROP TABLE IF EXISTS w; CREATE TABLE w ({key}x numeric, geom geometry(Point)); INSERT INTO w (x, geom) VALUES (1e-30, 'POINT(1 2)'), (2, 'POINT(1 3)')")
+            self.assertEqual(bring_in(self.target, self.store, *PLAIN[:4], "--overwrite")[0], 1)
+            err = self.refused(self.store, self.target, "--overwrite")
+            self.assertIn("has values where the store has none, and an import has left out some: x of " if key else "has 1 row that is not in the store as in the table", err)
+            self.assertEqual(self.ask("SELECT count(x) FROM w"), [(2,)])
+
+    def test_rows_of_a_table_without_a_key_of_whole_numbers_that_others_have_added_are_told(self):
+        for key in ("", "id uuid PRIMARY KEY DEFAULT gen_random_uuid(), "):
+            self.assertEqual(self.keyless(key)[0], 0)
+            # Two rows may be equal.
+            self.ask("INSERT INTO w (n, t, geom) VALUES (1, 'a', 'POINT(1 2)'), (9, 'new', 'POINT(9 9)')")
+            err = self.written(self.store, self.target, "--overwrite")
+            self.assertIn("has 2 rows that the store has not, and they are removed: " if key else "has 2 rows that are not in the store as in the table, of others or edited in the store: removed\n", err)
+            self.assertEqual(self.ask("SELECT n FROM w ORDER BY n"), [(1,), (2,)])
+            self.assertNotIn("removed", self.written(self.store, self.target, "--overwrite"))
 
     def test_a_table_is_not_replaced_where_what_was_left_out_has_no_room_in_the_side_car(self):
         self.ask("CREATE TABLE w (id int PRIMARY KEY, geom geometry(Point)); "
@@ -384,6 +494,30 @@ class Others(DatabaseCase):
         err = self.refused(self.store, self.target, "--overwrite")
         self.assertIn("the table w may have features, or values of them, that an import has left out: they are more than the side-car", err)
         self.assertEqual(self.ask("SELECT * FROM w ORDER BY id"), [before[0], before[2]])
+        self.ask("DELETE FROM w")
+        self.written(self.store, self.target, "--overwrite")
+
+    def test_a_table_is_not_replaced_where_a_side_car_has_no_room_for_all_that_was_added(self):
+        self.ask("CREATE TABLE w (id int PRIMARY KEY, geom geometry(Point)); INSERT INTO w VALUES (1, 'POINT(1 2)')")
+        self.assertEqual(bring_in(self.target, self.store, *PLAIN[:4])[0], 0)
+        self.ask("INSERT INTO w VALUES (2, 'POINT(1.5 3)'), (3, 'POINT(4 4)')")
+        before = self.ask("SELECT * FROM w ORDER BY id")
+        self.assertEqual(bring_in(self.target, self.store, "--add")[0], 1)
+        Store(self.store, journal=True, program=PROGRAM).close()
+        found = sidecar.read(str(self.store))
+        first = found.additions[0]
+        for others, words in (
+            # Those of files go first.
+            ([replace(first, source=f"{number}.gpkg") for number in range(1_000)], "has features that an addition has left out, as a whole or in part: 2. "),
+            ([replace(first, source_name=f"w{number}") for number in range(1_000)], "may have features, or values of them, that an import has left out"),
+        ):
+            many = found
+            for number in range(0, 1_000, 100):
+                many = many.with_additions(others[number : number + 100])
+            sidecar.write(str(self.store), many, found.digests)
+            self.assertEqual(len(sidecar.read(str(self.store)).additions), 1_000)
+            self.assertIn(words, self.refused(self.store, self.target, "--overwrite"))
+            self.assertEqual(self.ask("SELECT * FROM w ORDER BY id"), before)
         self.ask("DELETE FROM w")
         self.written(self.store, self.target, "--overwrite")
 

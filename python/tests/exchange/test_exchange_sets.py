@@ -35,7 +35,7 @@ WELLS = [
     "set wells 1 depth 12",
     "set wells 1 label 'old'",
 ]
-OTHERS = ["layer add wells point", "column add wells depth int", "add wells POINT (100 100)"]
+OTHERS = ["layer add wells point", "column add wells depth int", "column add wells label text", "add wells POINT (100 100)"]
 
 
 def parts(folder, stem):
@@ -243,7 +243,7 @@ class Sets(SetCase):
         store = self.made("u.sfs", OTHERS)
         self.assertEqual(give_back(store, target, *PLAIN[:4])[0], 3)
         self.assertEqual(give_back(store, target, *PLAIN[:4], "--overwrite")[0], 0)
-        self.assertEqual(self.shown_features(target), [("POINT (100 100)", {"depth": None})])
+        self.assertEqual(self.shown_features(target), [("POINT (100 100)", {"depth": None, "label": None})])
         # The new one has no reference system, and doesn't get the old one's.
         self.assertNotIn("out.prj", parts(self.folder, "out"))
         self.assertEqual(self.hidden(), [])
@@ -388,6 +388,80 @@ class Sets(SetCase):
             status, _, err = give_back(store, self.target, *PLAIN)
         self.assertEqual(status, 3)
         self.assertIn("is being written by another program", err)
+
+
+class OtherFormats(SetCase):
+    """What others have put into a map that is no GeoPackage is looked at before it is replaced."""
+
+    LINES = ["layer add w point", "column add w a text", "add w POINT (1 1)", "set w 1 a 'x'", "add w POINT (2 2)"]
+
+    def files(self):
+        """The targets of each format with the words of the export, and the file that has the layer then."""
+        for name, ending in (("GeoJSON", ".geojson"), ("FlatGeobuf", ".fgb"), ("ESRI Shapefile", ".shp")):
+            yield [self.folder / f"w{ending}"], self.folder / f"w{ending}"
+            yield [self.folder / f"maps{ending}x", "--format", name], self.folder / f"maps{ending}x" / f"w{ending}"
+
+    def made_with_grid(self):
+        store = self.made("t.sfs", self.LINES)
+        self.assertEqual(give_back(store, self.folder / "first.gpkg", *PLAIN)[0], 0)
+        return store
+
+    def put(self, path, features, columns):
+        """Puts a file of others in the place of one."""
+        made = self.folder / "of_others"
+        made.mkdir(exist_ok=True)
+        driver = {".geojson": "GeoJSON", ".fgb": "FlatGeobuf", ".shp": "ESRI Shapefile"}[path.suffix]
+        Source(made / path.name, driver).layer("w", features, ogr.wkbPoint, [(name, ogr.OFTString) for name in columns], options=["ID_GENERATE=YES"] if driver == "GeoJSON" else []).close()
+        for each in made.iterdir():
+            each.replace(path.with_name(each.name))
+
+    def test_columns_of_others_are_not_lost(self):
+        store = self.made_with_grid()
+        for words, path in self.files():
+            self.assertEqual(give_back(store, *words)[0], 0)
+            self.put(path, {1: ("POINT (1 1)", {"a": "x", "owner": "Eve"})}, ["a", "owner"])
+            before = path.read_bytes()
+            status, _, err = give_back(store, *words, "--overwrite")
+            self.assertEqual((status, path.read_bytes()), (3, before), err)
+            self.assertIn(f"{path} has columns that the new one has not, and they would be lost: owner. Name another file", err)
+
+    def test_rows_of_others_are_said(self):
+        store = self.made_with_grid()
+        for words, path in self.files():
+            self.assertEqual(give_back(store, *words)[0], 0)
+            self.assertNotIn("removed", give_back(store, *words, "--overwrite")[2])
+            self.put(path, {1: ("POINT (1 1)", {"a": "x"}), 2: ("POINT (2 2)", {}), 9: ("POINT (9 9)", {"a": "y"}), 10: ("POINT (9 9)", {"a": "y"})}, ["a"])
+            status, _, err = give_back(store, *words, "--overwrite")
+            named = "2 rows that the store has not, and they are removed: 9, 10\n"
+            self.assertIn(f"{path} has {named}" if path.suffix == ".geojson" else f"{path} has 2 rows that are not in the new one as in the old, of others or edited in the store: removed\n", err)
+            self.assertEqual((status, len(self.shown_features(path))), (0, 2))
+
+    def test_rows_of_a_geojson_without_identifiers_and_what_stands_beside_its_features_are_said(self):
+        store, target = self.made("t.sfs", self.LINES), self.folder / "w.geojson"
+        point = '{"type": "Feature", "style": "red", "properties": {"a": "y"}, "geometry": {"type": "Point", "coordinates": [9, 9]}}'
+        target.write_text(f'{{"type": "FeatureCollection", "licence": "free", "features": [{point}, {point}]}}')
+        status, _, err = give_back(store, target, *PLAIN, "--overwrite")
+        self.assertEqual(status, 0)
+        self.assertIn(f"{target} has 2 rows that are not in the new one as in the old, of others or edited in the store: removed\n", err)
+        self.assertIn(f"{target} has what the new one has not, and it is gone then: members of features that are no properties are left out: style of 2; "
+                      "members of the file beside its features are left out: licence\n", err)
+        target.write_text("[1, 2")
+        self.assertIn(f"{target} can't be read, and nobody knows what goes with it: ", give_back(store, target, "--overwrite")[2])
+
+    def test_a_file_of_a_folder_that_is_written_meanwhile_stays(self):
+        store, folder = self.made_with_grid(), self.folder / "maps"
+        words = [store, folder, "--format", "GeoJSON"]
+        self.assertEqual(give_back(*words)[0], 0)
+
+        def written(*words):
+            write_data(*words)
+            (folder / "w.geojson").write_text("of others")
+
+        write_data = exporting.write_data
+        with mock.patch.object(exporting, "write_data", written):
+            status, _, err = give_back(*words, "--overwrite")
+        self.assertEqual((status, (folder / "w.geojson").read_text()), (3, "of others"), err)
+        self.assertIn("w.geojson was written by another program meanwhile: try again\n", err)
 
 
 class Names(SetCase):

@@ -312,6 +312,36 @@ class Shapefiles(ExchangeCase):
             self.assertEqual((status, len(values)), (1, 2))
             self.assertIn("its .shx does not name all of its .shp, and no more: 156 of 212 bytes\n", out)
 
+    def test_files_of_a_shapefile_that_are_not_of_one_another_are_told(self):
+        self.made()
+        shapes, index, table = (self.source.with_suffix(ending) for ending in (".shp", ".shx", ".dbf"))
+        kept = {path: path.read_bytes() for path in (shapes, index, table)}
+        entries = [kept[index][at : at + 8] for at in range(100, 132, 8)]
+        begin, size = (int.from_bytes(kept[table][at : at + 2], "little") for at in (8, 10))
+        more = kept[table][:4] + (5).to_bytes(4, "little") + kept[table][8:begin] + kept[table][begin : begin + size] + kept[table][begin:]
+        within = entries[1][:3] + bytes([entries[1][3] + 2]) + entries[1][4:]
+        first = "its .shx finds other shapes in its .shp than those of its records: record "
+        for path, content, words in (
+            (table, more, "its .dbf has more records than there are shapes, and values may be at others than their own: 5 records, 4 shapes\n"),
+            (index, kept[index][:100] + b"".join(entries[::-1]), f"{first}1 has shape 4, record 2 has shape 3, record 3 has shape 2 and 1 more\n"),
+            (index, kept[index][:100] + entries[0] + within + entries[2] + entries[3], first + "2 has shape 10\n"),
+        ):
+            with self.subTest(words):
+                path.write_bytes(content)
+                status, out, _ = self.brought_in()
+                self.assertEqual(status, 1)
+                self.assertIn(words, out)
+                path.write_bytes(kept[path])
+        # Some programs count from 0, or write no numbers.
+        for numbers in ((0, 1, 2, 3), (0, 0, 0, 0)):
+            other = bytearray(kept[shapes])
+            for entry, number in zip(entries, numbers):
+                place = int.from_bytes(entry[:4], "big") * 2
+                other[place : place + 4] = number.to_bytes(4, "big")
+            shapes.write_bytes(other)
+            status, out, _ = self.brought_in()
+            self.assertNotIn("its .shx", out)
+
 
 class Stored(ExchangeCase):
     """GeoPackages that were changed by SQL."""
