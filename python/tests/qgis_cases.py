@@ -625,6 +625,30 @@ class Columns(QgisCase):
         self.assert_alike()
 
 
+    def test_nothing_goes_into_a_layer_that_has_taken_the_name(self):
+        """Neither what is drawn, with a value or without, nor a field."""
+        parcels, ben = self.layer(), self.ben()
+        self.bens(ben, "layer add plans polygon", "column add plans owner text")
+        edits = (lambda: self.draw(SQUARE), lambda: self.draw(SQUARE, owner="Ann"), lambda: parcels.addAttribute(QgsField("mine", QVariant.String, "text", 255)))
+        for edit in edits:
+            self.said()
+            parcels.startEditing()
+            edit()
+            self.bens(ben, "layer rename parcels old", "layer rename plans parcels")
+            self.assertFalse(parcels.commitChanges())
+            self.turn()
+            self.assertIn("Look again: Ben changed the layer parcels meanwhile, by `layer rename plans parcels`.", " ".join(self.said()))
+            parcels.rollBack()
+            self.assertEqual(ben.call("ids", layer="parcels")["ids"], [])
+            self.bens(ben, "layer rename parcels plans", "layer rename old parcels")
+        # A layer that has its name again is the same one.
+        parcels.startEditing()
+        self.draw(SQUARE)
+        self.bens(ben, "layer rename parcels old")
+        self.bens(ben, "layer rename old parcels")
+        self.assertTrue(parcels.commitChanges(), self.said())
+        self.assertEqual(len(ben.call("ids", layer="parcels")["ids"]), 201)
+
     def test_a_layer_that_another_one_renames(self):
         ben = self.ben()
         for line, names in (("layer rename wells springs", "wells to springs"), ("layer rename springs wells", ""), ("undo", "wells to springs"), ("undo", "")):

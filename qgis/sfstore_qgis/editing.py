@@ -269,11 +269,11 @@ class Editing:
         return corners_of(mirror.written([]), drawn, before)
 
     def version_of(self, line: Line) -> int | None:
-        """The version of the store that the user has seen of what a line edits: a feature, or a column."""
-        if line.column is not None:
-            return self._begun.version if self._begun else int(self.session.version)
+        """The version of the store that the user has seen of what a line edits: a feature, a column, or the layer that it goes into."""
         if line.feature is None:
-            return None
+            # A value in a column that the same commit adds: nobody can have seen that.
+            is_of_own = line.column is None and line.text.startswith("set ")
+            return None if is_of_own else self._begun.version if self._begun else int(self.session.version)
         seen = self._seen.get(self.provider.mirror.numbers[line.feature])
         return seen.version if seen else int(self.session.version)
 

@@ -289,8 +289,8 @@ class Calls:
             return {"text": ""}
         if words[0] == "help":
             return {"text": help_text(words[1] if len(words) > 1 else "", OWN)}
-        # Who edits no feature that was there may say of which version they know a column.
-        is_seen = features_of(line) or ("seen" in body and seen_of(line))
+        # Who edits no feature that was there may say of which version they know a column, or a layer.
+        is_seen = features_of(line) or (body.get("seen") is not None and seen_of(line))
         seen = _number(body, "seen", 0, 2**53) if is_seen else None
         question = self._question(editor, body, line, units)
         if question:
@@ -365,7 +365,7 @@ class Calls:
                 question = next(filter(None, (self._question(editor, body, line, units) for line in lines)), "")
                 if question:
                     return {"question": question}
-                batch = batch_of(editor, _page(body), lines, [seen if feature_of(line) else None for line in lines])
+                batch = batch_of(editor, _page(body), lines, [seen if seen_of(line) else None for line in lines])
                 done = self._changing(editor, lambda: self._keeper.carry_out_all(batch, drawn.version, grid.mark, over))
                 answer = " ".join(["ok", *(answer[3:] for answer in done.answers if answer != "ok")])
                 return {"answer": answer, "changed": _changed(lines)}
@@ -555,13 +555,13 @@ class Calls:
 
     def _meanwhile(self, target: Target, change: Change | None) -> str:
         """Who changed what before an edit, in a sentence."""
-        feature = f"{target.layer} {target.feature}"
+        feature = f"the layer {target.layer}" if target.feature is None else f"{target.layer} {target.feature}"
         if target.column is not None:
             feature = f"the column {target.column} of {target.layer}"
         if change is None:
             return f"It is not known any more whether {feature} was changed meanwhile: look again."
         who = self._editors.name_of(change.editor)
-        if target in change.targets and target.column is None:
+        if target in change.targets and target.feature is not None:
             did = "deleted" if change.line.startswith("delete") else "changed"
             return f"{who} {did} {feature} meanwhile: look again."
         return f"{who} changed {feature} meanwhile, by `{self._shown_line(change.line)}`: look again."

@@ -12,7 +12,7 @@ from collections.abc import Sequence
 from typing import NamedTuple
 
 from sfstore.groups import lines_of
-from sfstore.language import COMMANDS
+from sfstore.language import COMMANDS, words_of_line
 
 __all__ = [
     "LAST",
@@ -22,6 +22,8 @@ __all__ = [
     "column_of",
     "feature_of",
     "features_of",
+    "is_from",
+    "layers_made_by",
     "renamed_by",
     "seen_of",
     "targets_of",
@@ -47,7 +49,11 @@ _OF_LAYER = re.compile(f"[ \t]*layer{_BLANK}(?:add|drop|rename){_BLANK}{_WORD}")
 _OF_COLUMN = re.compile(f"[ \t]*column{_BLANK}(?:add|drop){_BLANK}{_WORD}{_BLANK}{_WORD}")
 _SETTING_LAST = re.compile(f"[ \t]*(?:set|unset){_BLANK}{_WORD}{_BLANK}last{_BLANK}{_WORD}")
 _DROP = re.compile(f"[ \t]*column{_BLANK}drop{_BLANK}{_WORD}{_BLANK}{_WORD}")
+# What else means a layer by its name: of a rule also the one that comes behind.
+_OF_NAME = re.compile(f"[ \t]*(?:layer{_BLANK}(?:drop|rename|move)|column{_BLANK}add){_BLANK}{_WORD}")
 _RENAMING = re.compile(f"[ \t]*layer{_BLANK}rename{_BLANK}{_WORD}{_BLANK}{_WORD}")
+
+_MADE = re.compile(f"[ \t]*layer{_BLANK}(?:add{_BLANK}{_WORD}|rename{_BLANK}[^ \t\r]+{_BLANK}{_WORD})")
 
 # So many features are remembered. Beyond them all is forgotten, and pages have to look again once.
 _REMEMBERED_MAX = 100_000
@@ -97,9 +103,41 @@ def column_of(line: str) -> Target | None:
 
 
 def seen_of(text: str) -> list[Target]:
-    """What whoever sends a line, or a group, may say that they have seen: features, and columns that it names."""
-    columns = (column_of(line) for line in lines_of(text))
-    return features_of(text) + [target for target in columns if target is not None]
+    """What whoever sends a line, or a group, may say that they have seen: features, columns that it names, and layers.
+
+    A layer stands without a feature and a column: it is what an addition goes into, or what is dropped or renamed, has a column added,
+    or has a rule.
+    """
+    return [target for line in lines_of(text) for target in _seen_of_line(line)]
+
+
+def _seen_of_line(line: str) -> list[Target]:
+    target = feature_of(line) or column_of(line)
+    if target is not None:
+        return [target]
+    found = _ADDITION.match(line) or _OF_NAME.match(line)
+    return [Target(name, None) for name in ([found[1]] if found else _layers_of_rule(words_of_line(line)))]
+
+
+def _layers_of_rule(words: Sequence[str]) -> list[str]:
+    """The layers that a line gives a rule; none where it gives none.
+
+    >>> _layers_of_rule("rule add near each wells near 4 some roads".split()), _layers_of_rule("rule add u unique wells label".split())
+    (['wells', 'roads'], ['wells'])
+    """
+    if words[:2] != ["rule", "add"]:
+        return []
+    return [*words[4:5], *(words[-1:] if words[3:4] in (["never"], ["each"]) and len(words) > 5 else [])]
+
+
+def layers_made_by(line: str) -> list[str]:
+    """The name that a line gives a layer; none where it gives none.
+
+    >>> layers_made_by("layer add wells point"), layers_made_by("layer rename wells springs"), layers_made_by("layer drop wells")
+    (['wells'], ['springs'], [])
+    """
+    found = _MADE.match(line)
+    return [found[1] or found[2]] if found else []
 
 
 def targets_of_members(members: Sequence[str], answer: str = "") -> list[tuple[Target, ...]]:
@@ -170,7 +208,7 @@ class Changes:
             before = self._last.get(target)
             if before is None:
                 other = None
-            elif _is_from(before.change, change.editor, change.page):
+            elif is_from(before.change, change.editor, change.page):
                 other = before.other
             else:
                 other = before.change
@@ -188,13 +226,13 @@ class Changes:
     def since(self, target: Target, version: int, editor: int, page: str) -> Change | None:
         """The change of a feature after a version by another page than one, if there is one: of its layer or columns too.
 
-        Of a column it is a change of that one, or of its layer. What a page has done itself it knows.
+        Of a column it is a change of that one alone. What a page has done itself it knows.
         """
         for place in _beside(target):
             last = self._last.get(place)
             if last is None:
                 continue
-            change = last.other if _is_from(last.change, editor, page) else last.change
+            change = last.other if is_from(last.change, editor, page) else last.change
             if change is not None and change.version > version:
                 return change
         return None
@@ -212,10 +250,11 @@ def _places(target: Target) -> list[Target]:
 
 def _beside(target: Target) -> list[Target]:
     """What a change may be remembered under that changes something."""
-    layer = Target(target.layer, None)
-    return [target, layer] if target.column is not None else [target, layer, Target(target.layer, None, _ANY)]
+    if target.column is not None:
+        return [target]
+    return [target, Target(target.layer, None), Target(target.layer, None, _ANY)]
 
 
-def _is_from(change: Change, editor: int, page: str) -> bool:
-    # A page that takes the name of another editor's is none of that editor's.
+def is_from(change: Change, editor: int, page: str) -> bool:
+    """Whether a page has made a change. One that takes the name of another editor's is none of that editor's."""
     return (change.editor, change.page) == (editor, page)

@@ -5,7 +5,7 @@ from __future__ import annotations
 import threading
 import time
 import warnings
-from collections.abc import Callable, Sequence
+from collections.abc import Callable, Container, Sequence
 from concurrent.futures import ThreadPoolExecutor
 from typing import NamedTuple, TypeVar, cast
 
@@ -17,8 +17,9 @@ from sfstore.program import Program, is_edit, started, stopped_after
 from sfstore.store import Answer, Editor, ProgramEnded, Refused, Store
 from sfstore.web.batches import Batch, Done, LineRefused, NotTakenBack, carry_out, carry_out_group, is_group, moved, refusal_of, take_back
 from sfstore.web.batchlog import BatchLog, new_mark
-from sfstore.web.changes import Change, Changes, Target, seen_of
+from sfstore.web.changes import Change, Changes, Target, layers_made_by, seen_of
 from sfstore.web.lineage import Lineage
+from sfstore.web.names import Names
 from sfstore.web.steps import LayerChange, Step, Steps
 
 __all__ = ["Asked", "ChangedMeanwhile", "Edit", "Keeper", "Overtaken", "Snapshot", "StoreChanged", "Unavailable", "loaded"]
@@ -38,7 +39,7 @@ class Unavailable(Exception):
 
 
 class ChangedMeanwhile(Exception):
-    """An edit is not carried out: its feature, or a column, was changed since its page has looked at it."""
+    """An edit is not carried out: its feature, a column or its layer was changed since its page has looked at it."""
 
     def __init__(self, target: Target, change: Change | None) -> None:
         super().__init__(target, change)
@@ -67,7 +68,7 @@ class Asked(NamedTuple):
     seen: int | None
     """The version of the store that the page has seen of what it edits.
 
-    None where it edits no feature that is there.
+    None where that is not said.
     """
     grid: str | None = None
     """The mark of the grid for which the line was made; none where it has nothing to do with one."""
@@ -139,6 +140,7 @@ class Keeper:
         self._steps = Steps()
         self._log = BatchLog(path)
         self._changes = Changes()
+        self._names = Names()
         # Above all of an earlier server: what somebody has seen there is none of these, and has to be looked at again.
         self._version = (time.time_ns() // 1_000_000) << _VERSIONS_OF_A_MILLISECOND
         self._file = 0
@@ -171,8 +173,10 @@ class Keeper:
             if made_for not in (None, self._version):
                 raise Overtaken
             self._check_grid(grid, over)
+            own: set[str] = set()
             for line, seen in zip(batch.lines, batch.seen):
-                self._check_seen(Asked(batch.editor, batch.page, line, seen))
+                self._check_seen(Asked(batch.editor, batch.page, line, seen), own)
+                own.update(layers_made_by(line))
             # The trial has the same one: it makes a line longer.
             mark = new_mark() if len(batch.lines) > 1 and not is_group(batch.lines) else ""
             if mark:
@@ -354,6 +358,7 @@ class Keeper:
             self._file += 1
             # An edit that was in doubt may be there or not.
             self._changes.forget(self._version)
+            self._names = Names(self._steps.layer_changes, self._version)
         return self._store
 
     def _found_steps(self, store: Store) -> Steps:
@@ -439,11 +444,14 @@ class Keeper:
         """Notes a line that was accepted. One that does not stay is undone by another of the same batch."""
         self._version += 1
         editor, page, line = asked.editor, asked.page, asked.line
+        followed = len(self._steps.layer_changes)
         step = self._steps.take(editor, line, answer, group)
         moved = line.strip()
         front = f"{moved}: " if moved in ("undo", "redo") else ""
-        for did in step.edits if stays else ():
-            self._changes.take(Change(self._version, editor, page, front + did.line, did.targets))
+        changes = [Change(self._version, editor, page, front + did.line, did.targets) for did in step.edits]
+        self._names.take(self._steps.layer_changes[followed:], changes[0])
+        for change in changes if stays else ():
+            self._changes.take(change)
         steps = self._steps.to_undo, self._steps.to_redo
         return Edit(self._version, editor, page, line, step, *steps, stays)
 
@@ -469,13 +477,25 @@ class Keeper:
         if made_over not in (None, self._lineage.number):
             raise StoreChanged(self._path)
 
-    def _check_seen(self, asked: Asked) -> None:
-        """`ChangedMeanwhile` where a line edits what its page has not seen as it is."""
+    def _check_seen(self, asked: Asked, own: Container[str] = ()) -> None:
+        """`ChangedMeanwhile` where a line edits what its page has not seen as it is.
+
+        ``own`` are the layers that lines before it make, which nobody can have seen.
+        """
         if asked.seen is None:
             return
         for target in seen_of(asked.line):
-            change = self._changes.since(target, asked.seen, asked.editor, asked.page)
-            is_known = self._changes.is_known_since(asked.seen) and asked.seen <= self._version
+            if target.feature is None and target.layer in own:
+                continue
+            whose = asked.seen, asked.editor, asked.page
+            change, is_known = None, asked.seen <= self._version
+            if target.feature is None:
+                # What others add to a layer, or change in it, is no change of the layer.
+                change = self._names.since(target.layer, *whose)
+                is_known &= self._names.is_known_since(asked.seen)
+            if target != (target.layer, None, None):
+                change = change or self._changes.since(target, *whose)
+                is_known &= self._changes.is_known_since(asked.seen)
             if change is not None or not is_known:
                 raise ChangedMeanwhile(target, change)
 

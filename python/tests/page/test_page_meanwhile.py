@@ -29,6 +29,8 @@ request.send(JSON.stringify({ page: "other", line, seen }));
 document.activeElement.dispatchEvent(new KeyboardEvent("keydown", { key: "Enter", bubbles: true }));
 return request.status;
 """
+# Does lines so.
+ALL_BEHIND = BEHIND.replace('"line"', '"batch"').replace("line, seen })", "lines: line, seen: line.map(() => null) })")
 # Notes what the page asks of the server from now on.
 NOTING = """
 const whole = window.fetch;
@@ -306,6 +308,60 @@ class Meanwhile(PageCase):
             page.type(line, "ok")
             page.until(lambda name=name: page.text("#chosen-title") == f"{name} 2, a polygon")
         self.assertTrue(page.drawn("fields") and not page.drawn("parcels"))
+
+    def test_what_is_drawn_goes_into_no_layer_that_has_taken_the_name(self):
+        """Not where that is heard while it is drawn, nor where it was not heard yet; it stays in the console."""
+        page, swap = self.plots(), ["layer rename parcels old", "layer rename plots parcels"]
+        self.sketch(page)
+        self.assertEqual(page.script(ALL_BEHIND, self.ann.key, swap), 200)
+        self.told(page, f"Ann changed the layer parcels meanwhile, by `{swap[1]}`: look again.")
+        self.assertTrue(page.log()[-1][0].startswith("add parcels POLYGON (("), page.log())
+        page.until(lambda: "old" in page.text("#layers"))
+        page.pick("#target", "parcels")
+        self.sketch(page)
+        body = {"page": "script", "lines": ["layer drop parcels", "layer add parcels polygon"], "seen": [None] * 2}
+        self.assertEqual(self.serving.posted("/batch", self.ann.key, **body)[0], 200)
+        page.until(lambda: page.one("#target").get_property("value") == "")
+        page.send(page.keys.ENTER)
+        page.until(lambda: page.text("#status") == "The layer that was chosen is not there any more: choose one.")
+        self.assertEqual(self.ann.line("show parcels")["rows"], [])
+        # One that is renamed alone is followed, and others may add to it meanwhile.
+        page.pick("#target", "parcels")
+        self.sketch(page)
+        self.ann.line("add parcels POLYGON ((0 0, 9 0, 9 9, 0 0))")
+        self.ann.line("layer rename parcels plots")
+        page.until(lambda: page.one("#target").get_property("value") == "plots")
+        page.send(page.keys.ENTER)
+        page.until(lambda: page.log()[-1][1] == "ok 2")
+
+    def test_a_layer_or_a_column_is_dropped_that_was_meant_at_the_question(self):
+        page, swap = self.plots(), ["layer rename parcels old", "layer rename plots parcels", "column add parcels owner text"]
+        page.use("#layers li:nth-child(1) button.quiet")
+        page.use("#layer-editor details:nth-of-type(2) summary")
+        page.use("#layer-drop")
+        page.until(lambda: page.one("#sure").get_property("open"))
+        for line in swap:
+            self.ann.line(line)
+        page.until(lambda: page.text("#layer-title") == "Layer old")
+        page.use("#sure-yes")
+        self.told(page, f"Ann changed the layer parcels meanwhile, by `{swap[1]}`: look again.")
+        self.assertEqual(len(self.ann.line("layers")["rows"]), 4)
+
+    def plots(self):
+        """A page that draws parcels, beside another layer, and somebody else."""
+        page = self.open("Ben")
+        page.known = ("streets-1", (960, -60))
+        self.ann = self.serving.log_in("Ann")
+        self.ann.line("layer add plots polygon")
+        page.until(lambda: "plots" in page.text("#layers"))
+        page.pick("#target", "parcels")
+        return page
+
+    def sketch(self, page):
+        """Draws three corners."""
+        page.tool("polygon")
+        for point in ((1300, 600), (1380, 600), (1380, 700)):
+            page.click(point)
 
     def test_a_value_that_is_not_set_is_not_shown(self):
         page = self.two()

@@ -100,12 +100,12 @@ class Lines(WebCase):
         places = [tuple(f"{Decimal(origin) + k * Decimal('0.001')}" for origin, k in zip((2_600_000, 1_200_000), step)) for step in steps]
         wkt, in_steps = (f"MULTIPOINT ({', '.join(f'({x} {y})' for x, y in points)})" for points in (places, steps))
         ann = self.serve().log_in("Ann")
-        said = [ann.serving.posted("/line", ann.key, page="p", seen=1, units="map", line=line) for line in (f"add w {wkt}", "get w 1")]
+        said = [ann.serving.posted("/line", ann.key, page="p", units="map", line=line) for line in (f"add w {wkt}", "get w 1")]
         self.assertEqual(said[0], (200, {"answer": "ok 1"}))
         self.assertEqual(ann.serving.call("/feature", key=ann.key, layer="w", id=1, units="map")["wkt"], wkt)
         self.assertEqual(ann.serving.call("/feature", key=ann.key, layer="w", id=1)["wkt"], in_steps)
         for x, y in places[:100]:
-            _, told = ann.serving.posted("/line", ann.key, page="p", seen=1, units="map", line=f"add w MULTIPOINT (({x}5 {y}))")
+            _, told = ann.serving.posted("/line", ann.key, page="p", units="map", line=f"add w MULTIPOINT (({x}5 {y}))")
             self.assertIn("lies between two places of the grid", json.dumps(told))
 
     def test_what_lies_far_off_the_map_is_asked_about(self):
@@ -602,7 +602,7 @@ class Programs(WebCase):
         self.assertEqual(len(children), 3)
         for child in children:
             os.kill(child, signal.SIGKILL)
-        self.assertEqual(ann.posted("add w POINT (2 2)", 0)[0], 503)
+        self.assertEqual(ann.serving.posted("/line", ann.key, page="p", line="add w POINT (2 2)")[0], 503)
         self.assertEqual(page.next(), {"anew": True})
         self.assertEqual(ann.line("show w")["rows"], ["1 POINT (1 1)"])
         self.assertEqual(ann.answer("add w POINT (2 2)"), "ok 2")

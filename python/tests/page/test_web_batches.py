@@ -420,21 +420,91 @@ class Meanwhile(BatchCase):
 
     def test_a_value_of_an_addition_does_not_go_into_another_column_of_its_name(self):
         lines, before = [f"add p {SQUARE}", "set p last owner 'Ben''s'"], self.shown()
-        for changes, by in (
-            (["column drop p owner", "column add p owner text"], "column add p owner text"),
-            (["column drop p owner", "undo"], "undo: column drop p owner"),
-            (["layer rename p q", "layer add p polygon", "column add p owner text"], "column add p owner text"),
+        for changes, what, by in (
+            (["column drop p owner", "column add p owner text"], "column owner of p", "column add p owner text"),
+            (["column drop p owner", "undo"], "column owner of p", "undo: column drop p owner"),
+            (["layer rename p q", "layer add p polygon", "column add p owner text"], "layer p", "layer add p polygon"),
         ):
             with self.subTest(changes=changes):
                 seen = self.ben.version()
                 for line in changes:
                     self.ann.answer(line)
-                words = f"Ann changed the column owner of p meanwhile, by `{by}`: look again."
+                words = f"Ann changed the {what} meanwhile, by `{by}`: look again."
                 self.assertEqual(self.batch(self.ben, *lines, seen=seen), (409, {"error": words}))
                 group = self.ben.posted("\r".join(["together 2", *lines]), seen)
                 self.assertEqual(group, (409, {"error": words}))
         self.assertNotIn("Ben", "".join(self.shown()))
         self.assertEqual(len(self.shown("q")), len(before))
+
+    def test_nothing_is_done_to_a_layer_that_has_taken_the_name_of_another_one(self):
+        """Whatever means a layer by its name, in a batch, in a line or in a group."""
+        self.ann.answer("layer add fields polygon")
+        seen = self.ben.version()
+        swap = ["layer rename p q", "layer rename fields p", "column add p owner text"]
+        for line in swap:
+            self.ann.answer(line)
+        words = "Ann changed the layer p meanwhile, by `layer rename fields p`: look again."
+        meant = [
+            f"add p {SQUARE}", f"addhex p {self.ann.answer('hex q 1')}", "layer drop p", "layer rename p r", "layer move p 0",
+            "column add p more int", "rule add one never p overlaps w", "rule add two each w within some p",
+            "rule add three never w near 2 p", "rule add four required p owner",
+        ]
+        for line in meant:
+            with self.subTest(line=line):
+                self.assertEqual(self.batch(self.ben, line, seen=seen), (409, {"error": words}))
+                self.assertEqual(self.ben.posted(line, seen), (409, {"error": words}))
+        dropped = "column drop p owner"
+        self.assertIn("meanwhile", self.batch(self.ben, dropped, seen=seen)[1]["error"])
+        group = "\r".join(["together 1", meant[0]])
+        self.assertEqual(self.ben.posted(group, seen), (409, {"error": words}))
+        self.assertEqual(self.ben.posted("fill p 1 POINT (1 1)", seen)[1].get("answer"), None)
+        self.assertEqual(self.shown("p"), [])
+        # Who does not say what they have seen is asked nothing, and who has seen the layer is let in.
+        body = {"page": "script", "lines": [meant[0]], "seen": [None]}
+        self.assertEqual(self.serving.posted("/batch", self.ben.key, **body)[0], 200)
+        for said in ({}, {"seen": None}):
+            status, answer = self.serving.posted("/line", self.ben.key, page="script", line=meant[0], **said)
+            self.assertEqual((status, "answer" in answer), (200, True), answer)
+        self.assertEqual(self.batch(self.ben, *meant[:2])[0], 200)
+        self.assertEqual(len(self.shown("p")), 5)
+
+    def test_a_layer_is_the_same_behind_what_leaves_it_or_brings_it_back(self):
+        for changes in (
+            [f"add p {SQUARE}", "set p 1 owner 'Ann'", "column add p more int", "column drop p more", "layer move p 0"],
+            ["layer rename p q", "undo"],
+            ["layer rename p q", "layer rename q p"],
+            ["layer drop p", "undo"],
+            ["layer rename p q", "undo", "redo", "undo"],
+            ["layer rename p q", "layer add p point", "undo", "undo"],
+        ):
+            with self.subTest(changes=changes):
+                seen = self.ben.version()
+                for line in changes:
+                    self.ann.answer(line)
+                self.assertEqual(self.batch(self.ben, f"add p {SQUARE}", seen=seen)[0], 200)
+                self.ben.answer("undo")
+
+    def test_a_name_that_an_undo_brings_back_is_compared_with_what_was_seen(self):
+        """What was seen between a change and its undo is another layer than the one that is there behind it."""
+        self.ann.answer("layer add fields polygon")
+        for line in ("layer rename p q", "layer rename fields p"):
+            self.ann.answer(line)
+        seen = self.ben.version()
+        self.ann.answer("undo")
+        self.ann.answer("undo")
+        words = "Ann changed the layer p meanwhile, by `undo: layer rename p q`: look again."
+        self.assertEqual(self.batch(self.ben, f"add p {SQUARE}", seen=seen), (409, {"error": words}))
+
+    def test_layers_that_lines_before_make_are_theirs(self):
+        seen = self.ben.version()
+        for line in ("layer add new point", "layer drop new", "layer rename w x"):
+            self.ann.answer(line)
+        self.assertEqual(self.batch(self.ben, "layer add new polygon", f"add new {SQUARE}", seen=seen)[0], 200)
+        lines = ["layer rename p w", f"add w {SQUARE}"]
+        self.assertEqual(self.batch(self.ben, *lines, seen=seen)[0], 200)
+        # What the page has done itself it knows.
+        self.ben.answer("layer rename w p")
+        self.assertEqual(self.ben.posted(f"add p {SQUARE}", seen)[0], 200)
 
     def test_a_value_of_an_addition_waits_for_no_other_column(self):
         seen = self.ben.version()

@@ -56,9 +56,17 @@ export class Hand {
     return this.points.length > 0 && !ASKING.has(this.tool);
   }
 
-  /** Follows a layer to another name: what is being drawn is meant for it. */
-  rename(before, after) {
+  /** Follows a layer to another name: what is being drawn is meant for it, which has this name since a version of the store. */
+  rename(before, after, version) {
+    const { drawing } = this.app;
+    if (byId("target").value === before && drawing.since !== null) drawing.since = version ?? drawing.since;
     renameIn(byId("target"), before, after);
+  }
+
+  /** Lets go of the layer for which something is being drawn, where it is among what is changed: another one may have its name. */
+  miss(changed) {
+    const target = byId("target");
+    if (this.hasDrawn && changed?.some(({ what, layer }) => what === "layers" && layer === target.value)) target.value = "";
   }
 
   /** What a drag that begins here is for: a vertex, a box to ask about, or nothing but moving the map. */
@@ -167,7 +175,7 @@ export class Hand {
     if (this.app.drawing.has(this.tool)) return app.drawing.finish(this.tool, points, since);
     const layer = this.app.map.layer(byId("target").value);
     if (!layer) return this.#missLayer(wktOf(this.tool, points, this.app.place.units));
-    this.app.draw(layer.name, wktOf(this.tool, points, this.app.place.units, layer.kind.startsWith("multi")));
+    app.draw(layer.name, wktOf(this.tool, points, app.place.units, layer.kind.startsWith("multi")), since);
   }
 
   /** Tells that there is no layer for what was drawn, which stays in the console. */

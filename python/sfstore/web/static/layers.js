@@ -196,7 +196,7 @@ export class LayerEditor {
   async #drop() {
     const { name } = this;
     const words = `Drop the layer ${name} with all that it has? It can be undone until somebody else edits, or all is saved.`;
-    if (await sure(words, "Drop the layer")) await this.app.run(`layer drop ${name}`);
+    await this.#runIfSure(words, "Drop the layer", `layer drop ${name}`);
   }
 
   async #addColumn() {
@@ -208,7 +208,13 @@ export class LayerEditor {
   async #dropColumn(column) {
     const { name } = this;
     const words = `Drop the column ${column} of ${name} with all its values? It can be undone until somebody else edits, or all is saved.`;
-    if (await sure(words, "Drop the column")) await this.app.run(`column drop ${name} ${column}`);
+    await this.#runIfSure(words, "Drop the column", `column drop ${name} ${column}`);
+  }
+
+  /** Has a line carried out once that was answered: over what is there now, and not what has its name then. */
+  async #runIfSure(words, deed, line) {
+    const { version: seen, shown } = this.app;
+    if (await sure(words, deed)) await this.app.run(line, { seen, shown });
   }
 }
 

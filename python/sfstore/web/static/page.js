@@ -206,9 +206,9 @@ class App {
     this.overlay.showRefused(null, []);
   }
 
-  /** Adds what was drawn to a layer, and selects it. */
-  async draw(layer, wkt) {
-    const answer = await this.run(`add ${layer} ${wkt}`);
+  /** Adds what was drawn to a layer, as that was at a version of the store, and selects it. */
+  async draw(layer, wkt, seen) {
+    const answer = await this.run(`add ${layer} ${wkt}`, { seen });
     const found = /^ok ([0-9]+)$/.exec(answer.answer ?? "");
     if (found) await this.selection.choose({ layer, id: Number(found[1]) });
   }
@@ -268,7 +268,8 @@ class App {
       const moved = event.line === event.step ? "ok" : event.shown_step;
       this.log.add(event.shown, moved, "other", event.editor);
       const renamed = renamedBy(event.line, event.step);
-      this.#rename(renamed);
+      this.#rename(renamed, event.version);
+      if (!renamed) this.hand.miss(event.changed);
       await this.#redraw(event.line, event.changed);
       if (renamed) this.tell(`${event.editor} renamed ${renamed.join(" to ")}.`);
     }
@@ -333,10 +334,10 @@ class App {
     await this.selection.refresh();
   }
 
-  /** Has all parts follow a layer to another name: whoever works on it goes on. */
-  #rename(renamed) {
+  /** Has all parts follow a layer to another name, which somebody else has given it by a version of the store: whoever works on it goes on. */
+  #rename(renamed, version) {
     if (!renamed) return;
-    for (const part of [this.map, this.selection, this.hand, this.asking, this.table, this.layerEditor]) part.rename(...renamed);
+    for (const part of [this.map, this.selection, this.hand, this.asking, this.table, this.layerEditor]) part.rename(...renamed, version);
   }
 
   #tellSteps({ undo, redo }) {
