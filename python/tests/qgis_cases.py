@@ -2901,6 +2901,22 @@ add parcels POLYGON ((1000 0, 1100 0, 1100 100, 1000 0))
         self.assertFalse(parcels.commitChanges())
         self.assertNotIn("owner='Ann''s'", " ".join(self.stored().values()))
 
+    def test_nor_does_one_whose_next_edit_is_heard_with_it(self):
+        """The server has the backup, and an edit of it, before QGIS hears of either."""
+        ben, before = self.ben(), self.backup()
+        self.session.line("delete parcels 200")
+        self.turn(0.3)
+        parcels = self.edited()
+        self.restored(before)
+        # The first one finds that another file is there.
+        with self.assertRaises(CallFailed):
+            ben.call("line", page="ben", line="add wells POINT (24 24)")
+        ben.call("line", page="ben", line="add wells POINT (25 25)")
+        self.turn(0.5)
+        self.assertIn("Another store is in the place of town.sfs now", " ".join(self.said()))
+        self.assertFalse(parcels.commitChanges())
+        self.assertNotIn("owner='Ann''s'", " ".join(self.stored().values()))
+
     def test_a_store_that_was_saved_is_the_same_behind_another_server(self):
         parcels = self.edited()
         ben = self.ben()

@@ -402,7 +402,7 @@ class Calls:
             if body.get("corners"):
                 return self._fitting(batch, _corners(body["corners"]), _number(body, "shown", 0, 2**53), grid, over)
             done = self._changing(editor, lambda: self._keeper.carry_out_all(batch, grid=grid, over=over))
-            return {**done._asdict(), "point": self._keeper.last_point}
+            return {**done._asdict(), **self._keeper.last_at._asdict()}
         except LineRefused as refused:
             # One beside was sent by nobody: the last line is named, and the words are those of what is beside.
             line = lines[refused.at] if refused.at < len(lines) else refused.refused.line
@@ -424,7 +424,7 @@ class Calls:
             except Overtaken:
                 continue
             own = [_edited(*each) for each, fit in zip(zip(lines, done.answers), found.lines) if fit != each[0]]
-            told = {"answers": done.answers[: len(lines)], "version": done.version, "point": self._keeper.last_point}
+            told = {"answers": done.answers[: len(lines)], "version": done.version, **self._keeper.last_at._asdict()}
             return {**told, "beside": [*own, *found.beside]}
         raise Unavailable(_OVERTAKEN)
 
@@ -574,7 +574,7 @@ class Calls:
             with contextlib.suppress(OSError):
                 self._keeper.with_layer_changes(self._follow_layers)
             self._history.take(name, "save", "save")
-            self.events.tell({"saved": name, "point": self._keeper.last_point, "undo": None, "redo": None})
+            self.events.tell({"saved": name, **self._keeper.last_at._asdict(), "undo": None, "redo": None})
 
         try:
             self._keeper.save(told, over)
@@ -642,7 +642,7 @@ class Calls:
             "undo": self._step(last.to_undo),
             "redo": self._step(last.to_redo),
             "changed": merged(changes),
-            "point": self._keeper.last_point,
+            **self._keeper.last_at._asdict(),
         }
         self._history.take(told["editor"], told["shown"], told["shown_step"], told["changed"], last.version)
         self.events.tell(told)

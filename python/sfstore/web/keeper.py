@@ -18,7 +18,7 @@ from sfstore.store import Answer, Editor, ProgramEnded, Refused, Store
 from sfstore.web.batches import Batch, Done, LineRefused, NotTakenBack, carry_out, carry_out_group, is_group, moved, refusal_of, take_back
 from sfstore.web.batchlog import BatchLog, new_mark
 from sfstore.web.changes import Change, Changes, Target, layers_made_by, seen_of
-from sfstore.web.lineage import Lineage
+from sfstore.web.lineage import At, Lineage
 from sfstore.web.names import Names
 from sfstore.web.steps import LayerChange, Step, Steps
 
@@ -213,9 +213,9 @@ class Keeper:
         return self._lineage.number
 
     @property
-    def last_point(self) -> str:
-        """How far the store has come, by which a later server knows it, as `sfstore.web.lineage` says. Any thread may ask it."""
-        return self._lineage.point
+    def last_at(self) -> At:
+        """Which store is open, and how far it has come, by which a later server knows it (`sfstore.web.lineage`). Any thread may ask it."""
+        return self._lineage.at
 
     def going_on(self, point: str) -> tuple[int, str, bool]:
         """The number of the store that is open, how far it has come, and whether it goes on from a point that somebody knows."""

@@ -17,11 +17,11 @@ import hashlib
 import os
 import re
 import secrets
-from typing import Any, BinaryIO
+from typing import Any, BinaryIO, NamedTuple
 
 from sfstore import files, journal
 
-__all__ = ["Known", "Lineage", "goes_on", "point_of"]
+__all__ = ["At", "Known", "Lineage", "goes_on", "point_of"]
 
 # A page counts exactly up to 2**53.
 _NUMBERS = 2**52
@@ -32,6 +32,15 @@ _SUM_DIGITS = 16
 _READ_BYTES = 1 << 16
 
 
+class At(NamedTuple):
+    """Which store is open, and how far it has come."""
+
+    store: int
+    """Another number whenever another store is open than before. No two are the same, not even those of two servers."""
+    point: str
+    """Empty where the journal of the store can't be read."""
+
+
 class Lineage:
     """The store of a file as a server has it open, by number and point.
 
@@ -40,20 +49,27 @@ class Lineage:
 
     def __init__(self, store: str) -> None:
         self._store = os.path.realpath(store)
-        self.number = 0
-        """Another one whenever another store is open than before. No two are the same, not even those of two servers."""
-        self.point = ""
-        """How far the store has come; empty where its journal can't be read."""
+        self.at = At(0, "")
+        """Both, as they were at one moment."""
+
+    @property
+    def number(self) -> int:
+        """The number of the store that is open."""
+        return self.at.store
+
+    @property
+    def point(self) -> str:
+        """How far it has come."""
+        return self.at.point
 
     def opened(self) -> None:
         """Notes that the store was opened. It is another one where it does not go on from what was known."""
-        if not self.goes_on(self.point):
-            self.number = 1 + secrets.randbelow(_NUMBERS)
-        self.moved()
+        number = self.number if self.goes_on(self.point) else 1 + secrets.randbelow(_NUMBERS)
+        self.at = At(number, point_of(self._store))
 
     def moved(self) -> None:
         """Notes how far the store has come, behind edits or a save of this server."""
-        self.point = point_of(self._store)
+        self.at = self.at._replace(point=point_of(self._store))
 
     def goes_on(self, point: str) -> bool:
         """Whether the store has all that it had at a point, as `goes_on` says it."""
@@ -71,6 +87,7 @@ class Known:
 
     def __init__(self) -> None:
         self._numbers: set[int] = set()
+        self._newest = 0
         self._point = ""
 
     @property
@@ -83,13 +100,15 @@ class Known:
         is_same = not self._numbers or self.is_same(told["store"]) or told["goes_on"] is True
         if not is_same:
             self._numbers.clear()
-        self._numbers.add(told["store"])
+        self._newest = told["store"]
+        self._numbers.add(self._newest)
         self.hear(told)
         return is_same
 
     def hear(self, told: dict[str, Any]) -> None:
-        """Takes how far the store has come, where an event or an answer says it."""
-        self._point = told.get("point", self._point)
+        """Takes how far the store has come, where an event or an answer of it says so. One of another number says nothing of it."""
+        if "point" in told and told["store"] == self._newest:
+            self._point = told["point"]
 
     def is_same(self, number: int) -> bool:
         """Whether a number is one that a server has given to the store that is known."""

@@ -8,10 +8,10 @@ import tempfile
 import unittest
 from pathlib import Path
 
+from support import PROGRAM
+
 from sfstore import Store
 from sfstore.web.lineage import Known, Lineage, goes_on, point_of
-
-PROGRAM = os.environ.get("SFSTORE", "sfstore")
 
 
 class LineageCase(unittest.TestCase):
@@ -139,8 +139,11 @@ class Numbers(LineageCase):
         known = Known()
         self.assertTrue(known.take({"store": 1, "point": "a", "goes_on": False}))
         self.assertTrue(known.take({"store": 2, "point": "b", "goes_on": True}))
-        known.hear({"point": "c"})
+        known.hear({"store": 2, "point": "c"})
         known.hear({"styled": None})
+        # Of a store that took its place, and of an earlier server.
+        known.hear({"store": 3, "point": "d"})
+        known.hear({"store": 1, "point": "a"})
         self.assertEqual(known.named, {"known": "c"})
         self.assertEqual([known.is_same(number) for number in (1, 2, 3)], [True, True, False])
         self.assertFalse(known.take({"store": 3, "point": "d", "goes_on": False}))
