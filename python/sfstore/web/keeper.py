@@ -344,6 +344,7 @@ class Keeper:
                 # A torn record is told by `recovered`.
                 warnings.simplefilter("ignore", RuntimeWarning)
                 store = Store(self._path, journal=True, program=self._program, warn_far_off=False)
+            before = self._lineage.number, self._steps.layer_changes
             try:
                 self._steps = self._found_steps(store)
                 self._lineage.opened()
@@ -358,7 +359,9 @@ class Keeper:
             self._file += 1
             # An edit that was in doubt may be there or not.
             self._changes.forget(self._version)
-            self._names = Names(self._steps.layer_changes, self._version)
+            # One of a layer too: where the same store has the same ones as before, none was.
+            if before != (self._lineage.number, self._steps.layer_changes):
+                self._names = Names(self._steps.layer_changes, self._version)
         return self._store
 
     def _found_steps(self, store: Store) -> Steps:

@@ -457,7 +457,6 @@ class Meanwhile(BatchCase):
         self.assertIn("meanwhile", self.batch(self.ben, dropped, seen=seen)[1]["error"])
         group = "\r".join(["together 1", meant[0]])
         self.assertEqual(self.ben.posted(group, seen), (409, {"error": words}))
-        self.assertEqual(self.ben.posted("fill p 1 POINT (1 1)", seen)[1].get("answer"), None)
         self.assertEqual(self.shown("p"), [])
         # Who does not say what they have seen is asked nothing, and who has seen the layer is let in.
         body = {"page": "script", "lines": [meant[0]], "seen": [None]}
