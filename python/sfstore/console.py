@@ -176,6 +176,8 @@ class Console:
         self, path: str, program: str, make_terminal: Callable[[Complete], _Terminal], in_steps: bool = False
     ) -> None:
         self._path = path
+        # A link may be led to another store while this one is open.
+        self._file = os.path.realpath(path)
         self._program = program
         self._in_steps = in_steps
         self._units: MapUnits | None = None
@@ -282,7 +284,7 @@ class Console:
         with warnings.catch_warnings():
             # A torn record is told here.
             warnings.simplefilter("ignore", RuntimeWarning)
-            store = Store(self._path, journal=True, program=self._program, warn_far_off=False)
+            store = Store(self._file, journal=True, program=self._program, warn_far_off=False)
         edits, torn = store.recovered
         if edits:
             print(recovered_words(edits))
@@ -296,7 +298,7 @@ class Console:
         self._units = self._map = self._grid = None
         if self._in_steps:
             return
-        self._grid = MapGrid(self._path)
+        self._grid = MapGrid(self._file)
         self._units, self._map = self._grid.units, self._grid.found
         if self._grid.fault:
             print(self._grid.fault)
@@ -405,7 +407,7 @@ class Console:
             self._save([])
         elif unsaved:
             stay = "It stays in {}, and is" if unsaved == 1 else "They stay in {}, and are"
-            print(f"{stay.format(path_of(os.path.realpath(self._path)))} there when it is opened again.")
+            print(f"{stay.format(path_of(self._file))} there when it is opened again.")
         self._store.close(save=False)
         self._is_over = True
 
@@ -432,8 +434,7 @@ class Console:
     def _picture(self, words: list[str]) -> None:
         """Draws the store as it is, and opens the picture where there is a browser."""
         target = words[0] if words else self._path + _PICTURE
-        store = os.path.realpath(self._path)
-        if not target.lower().endswith(_PICTURE) or os.path.realpath(target) in (store, *sidecar.beside(store)):
+        if not target.lower().endswith(_PICTURE) or os.path.realpath(target) in (self._file, *sidecar.beside(self._file)):
             # Nothing else is replaced by one: somebody may name the store that is to be drawn.
             print(f"A picture goes to a file of its own, whose name ends in {_PICTURE}: nothing is drawn.")
             return
@@ -445,7 +446,7 @@ class Console:
             print("Nothing is drawn.")
             return
         # It lets others see no more than the store does, or where it was not saved yet its journal.
-        like = store if os.path.exists(store) else store + ".journal"
+        like = self._file if os.path.exists(self._file) else path_of(self._file)
         with tempfile.TemporaryDirectory() as folder, files.whole_file(target, like) as svg:
             copy = os.path.join(folder, "copy.sfs")
             self._store.copy(copy)
@@ -475,12 +476,12 @@ class Console:
             if not asked.add and not self._is_saved("Nothing is brought in: what comes takes the place of the saved store, and is no step to undo."):
                 return
             # Nobody else writes it before the store is closed, and all is saved: so the close leaves a file that is there.
-            seen = files.digest(self._path) if os.path.isfile(self._path) else ""
+            seen = files.digest(self._file) if os.path.isfile(self._file) else ""
             # What is added stands in the journal, on top of the edits there.
             self._store.close(save=not asked.add)
             try:
                 # The store that has no layers gives way, as it is now. Reports do only where that was said.
-                importing.main([*words, self._path], "" if asked.add else seen or files.digest(self._path))
+                importing.main([*words, self._file], "" if asked.add else seen or files.digest(self._file))
             finally:
                 self._store = self._opened()
 
@@ -498,7 +499,7 @@ class Console:
         if not self._is_saved("Nothing is written: an export is one of the saved store."):
             return
         with contextlib.suppress(SystemExit):
-            if exporting.main([self._path, *words, f"--program={self._program}"]) == 0:
+            if exporting.main([self._file, *words, f"--program={self._program}"]) == 0:
                 print("It is written.")
 
 

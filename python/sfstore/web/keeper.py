@@ -2,6 +2,7 @@
 
 from __future__ import annotations
 
+import os
 import threading
 import time
 import warnings
@@ -133,18 +134,19 @@ class Keeper:
         self._seconds = seconds
         self.follow: list[Callable[[Sequence[Edit]], object]] = []
         self.anew: list[Callable[[], object]] = []
-        self._path = path
+        # A link may be led to another store while this one is open.
+        self._path = os.path.realpath(path)
         self._program = program
         self._store: Store | None = None
         self._grid: MapGrid
         self._steps = Steps()
-        self._log = BatchLog(path)
+        self._log = BatchLog(self._path)
         self._changes = Changes()
         self._names = Names()
         # Above all of an earlier server: what somebody has seen there is none of these, and has to be looked at again.
         self._version = (time.time_ns() // 1_000_000) << _VERSIONS_OF_A_MILLISECOND
         self._file = 0
-        self._lineage = Lineage(path)
+        self._lineage = Lineage(self._path)
         self._thread = ThreadPoolExecutor(1, "keeper")
         try:
             self.recovered = self._thread.submit(self._opened).result().recovered

@@ -14,6 +14,7 @@ import sys
 import threading
 import time
 import unittest
+from pathlib import Path
 from unittest import mock
 
 from support import FOLDER, PROGRAM, TestCase
@@ -170,6 +171,27 @@ class Calls(SocketCase):
         link = self.folder / "link.sfs"
         link.symlink_to(self.path)
         self.assertEqual(len(self.rows(self.client(path=link))), 2)
+
+    def test_a_server_stays_with_its_store_where_its_link_is_led_to_another_one(self):
+        one, two, link, newer = (self.folder / name for name in ("one.sfs", "two.sfs", "link.sfs", "newer.sfs"))
+        self.make(MADE, one)
+        self.make(MADE, two)
+        link.symlink_to(one)
+        newer.symlink_to(two)
+        serving = self.serve(path=link)
+        ann = self.client(path=link)
+        self.batch(ann, "add w POINT (7 7)")
+        newer.replace(link)
+        for program in self.programs(serving):
+            os.kill(program, signal.SIGKILL)
+        # Each program that has gone is noticed where it is asked.
+        for _ in range(3):
+            with contextlib.suppress(CallFailed):
+                self.batch(ann, "add w POINT (8 8)")
+        self.batch(ann, "add w POINT (9 9)")
+        self.assertIn("POINT (9 9)", self.rows(ann)[-1])
+        self.assertIn("add w POINT (9 9)", Path(f"{one}.journal").read_text())
+        self.assertFalse(os.path.exists(f"{two}.journal"))
 
     def test_the_folder_is_left_as_it_was(self):
         self.assertEqual(self.serving.end(), 0)
