@@ -1,7 +1,6 @@
-//! What is large and seldom asked for stands behind a box, so that the commands that come most often stay small.
+//! A rule stands behind a box, so that the commands that come most often stay small.
 ghost use Rattle.std.specs.Prelude.{◌≡◌, IfOk};
 
-use sf_layers::ValueRange;
 use sf_rules::Rule;
 use std::alloc::{AllocError, Global};
 use std::marker::Model;
@@ -33,35 +32,5 @@ impl BoxedRule {
         ensures { result ≡ self }
     {
         Box::into_inner(self.rule)
-    }
-}
-
-/// A range of values behind a box. Contracts see it as the range.
-#[derive(Drop)]
-pub struct BoxedRange {
-    range: Box<ValueRange>,
-}
-
-impl Model for BoxedRange {
-    ghost use Rattle.std.specs.Prelude.{box_value};
-    ghost use Rattle.sf_layers.specs.declared.value_range.ValueRange.{ValueRange};
-
-    ghost Value = { ValueRange };
-
-    ghost view = { λ a. box_value a.range };
-}
-
-impl BoxedRange {
-    pub fn new(alloc: Global, range: ValueRange) -> Result<BoxedRange, AllocError>
-        ensures { IfOk result (λ boxed. boxed ≡ range) }
-    {
-        let range = Box::new(alloc, range)?;
-        Ok(BoxedRange { range })
-    }
-
-    pub fn range(&self) -> &ValueRange
-        ensures { result.now ≡ self.now }
-    {
-        &self.range
     }
 }

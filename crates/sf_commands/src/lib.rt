@@ -21,7 +21,7 @@ mod spelling;
 mod value_lists;
 mod vertex_commands;
 
-pub use boxed::{BoxedRange, BoxedRule};
+pub use boxed::BoxedRule;
 pub use command::{Command, Sought};
 pub use group_text::{GroupRefusal, parse_group, parse_members};
 pub use head::{Head, begins_as_head, head_of};

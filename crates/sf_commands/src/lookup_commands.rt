@@ -8,13 +8,13 @@ ghost use Rattle.sf_commands.specs.ValueLists.{around_to as around_to_of};
 ghost use Rattle.sf_measure.specs.declared.measure.Measure.TheVariants.{Area, Length};
 ghost use Rattle.sf_words.specs.Words.{words as words_of, skip_blanks, skip_word};
 
-use super::boxed::BoxedRange;
 use super::command::{Command, Sought};
 use super::named_values::{range_between, value_between};
 use super::value_lists::around_to;
 use sf_features::Text;
 use sf_measure::Measure;
 use sf_refusals::Refusal;
+use sf_rules::BoxedRange;
 use sf_values::text_of;
 use sf_words::{Identifiers, Words, id_of};
 use std::alloc::Global;

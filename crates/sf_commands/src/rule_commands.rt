@@ -14,7 +14,7 @@ use super::named_values::{range_between, values_of};
 use super::spelling::{DemandWord, demand_of, form_of, matrix_ask, near_ask};
 use super::value_lists::around_to;
 use sf_refusals::Refusal;
-use sf_rules::{Demand, Form, LayerRule, PairAsk, Rule, Says, ValueRule};
+use sf_rules::{BoxedRange, Demand, Form, LayerRule, PairAsk, Rule, Says, ValueRule};
 use sf_values::text_of;
 use sf_words::{Action, Words, action_of, is_near};
 use std::alloc::Global;
@@ -90,7 +90,8 @@ fn in_range(alloc: Global, text: &str) -> Result<Demand, Refusal>
     let Some((from, to)) = around_to(text) else {
         return Err(Refusal::BadCommand);
     };
-    Ok(Demand::InRange(range_between(alloc, from, to)?))
+    let range = range_between(alloc, from, to)?;
+    Ok(Demand::InRange(BoxedRange::new(alloc, range)?))
 }
 
 /// The command of a new rule on values.

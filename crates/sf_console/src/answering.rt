@@ -198,9 +198,27 @@ pub fn execute(
 {
     match command {
         Command::Edit(edit) => carry_out_edit(alloc, editor, asker, edit),
+        Command::Undo => undo(alloc, editor, asker),
+        Command::Redo => redo(alloc, editor, asker),
         // A match of so many arms prepares for each of them, which edits need not pay for.
         command => execute_any(alloc, editor, asker, command),
     }
+}
+
+/// Takes the last step back, where it was the editor's.
+fn undo(alloc: Global, editor: &mut Editor, asker: u8) -> Result<Reply, Refusal>
+    ensures { IsAnswered editor.old (Asked false (Ok (asker, Command.Undo))) (reply_text result) editor.new }
+{
+    editor.undo_as(alloc, asker)?;
+    Ok(Reply::Accepted(Answer::Done))
+}
+
+/// Redoes the last step that was taken back, where it was the editor's.
+fn redo(alloc: Global, editor: &mut Editor, asker: u8) -> Result<Reply, Refusal>
+    ensures { IsAnswered editor.old (Asked false (Ok (asker, Command.Redo))) (reply_text result) editor.new }
+{
+    editor.redo_as(alloc, asker)?;
+    Ok(Reply::Accepted(Answer::Done))
 }
 
 /// The same, of any command.
@@ -216,14 +234,8 @@ fn execute_any(
         Command::Edit(edit) => carry_out_edit(alloc, editor, asker, edit),
         Command::AddRule(rule) => add_rule(alloc, editor, asker, rule.into_rule()),
         Command::DropRule(name) => drop_rule(alloc, editor, asker, &name),
-        Command::Undo => {
-            editor.undo_as(alloc, asker)?;
-            Ok(Reply::Accepted(Answer::Done))
-        }
-        Command::Redo => {
-            editor.redo_as(alloc, asker)?;
-            Ok(Reply::Accepted(Answer::Done))
-        }
+        Command::Undo => undo(alloc, editor, asker),
+        Command::Redo => redo(alloc, editor, asker),
         Command::Layers => layers(alloc, editor.store()),
         Command::Rules => rules(alloc, editor.rules()),
         Command::Columns(name) => columns(alloc, editor.store(), &name),

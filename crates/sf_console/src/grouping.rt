@@ -1,5 +1,5 @@
 //! Groups of edits carried out, and the texts of their answers.
-ghost use Rattle.std.specs.Prelude.{◌≡◌, ◌≤◌, ◌+◌, ◌*◌, ◌++◌, ◌⊎◌, ◌∷◌, ℕ, [], List, Ok, Result, codes, decimal, flat_map, length, vec_capacity, Err, IfErr, IfOk, OnErr};
+ghost use Rattle.std.specs.Prelude.{◌≡◌, ◌≤◌, ◌+◌, ◌*◌, ◌++◌, ◌⊎◌, ℕ, [], List, Ok, Result, codes, decimal, flat_map, length, vec_capacity, Err, IfErr, IfOk, OnErr};
 ghost use Rattle.sf_groups.specs.declared.member.Member.{Member as GroupMember};
 ghost use Rattle.sf_commands.specs.declared.group_text.GroupRefusal.{GroupRefusal as GroupRefusalOf};
 ghost use Rattle.sf_commands.specs.GroupTexts.{OrNoMemory, members_of};

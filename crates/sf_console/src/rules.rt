@@ -224,7 +224,7 @@ fn push_named(text: &mut String, demand: &Demand) -> Result<(), AllocError>
     match demand {
         Demand::Unique | Demand::Required => Ok(()),
         Demand::OneOf(allowed) => push_list(text, allowed.as_slice()),
-        Demand::InRange(range) => push_range(text, range),
+        Demand::InRange(range) => push_range(text, range.range()),
     }
 }
 

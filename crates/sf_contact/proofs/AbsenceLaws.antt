@@ -203,7 +203,7 @@ point-starts (Polygon rings) b q s i in_a in_b = absurd cc
 point-starts (MultiPolygon polygons) b q s i in_a in_b = absurd cc
 
 -- what is in lines is on an edge of one
-lines-on : (a : Geometry) (q : PlanePoint) → shape_of a ≡ Lines → IsPoint q → is_in a q ≡ true → on_edges a q ≡ true
+pub lines-on : (a : Geometry) (q : PlanePoint) → shape_of a ≡ Lines → IsPoint q → is_in a q ≡ true → on_edges a q ≡ true
 lines-on (Point p) q s i in_a = absurd cc
 lines-on (MultiPoint ps) q s i in_a = absurd cc
 lines-on (Polygon rings) q s i in_a = absurd cc

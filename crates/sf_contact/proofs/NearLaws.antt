@@ -1,6 +1,6 @@
 -- A point that edges of two geometries share lies in the box that both geometries have in common, so those edges decide
 -- whose boxes meet it.
-use Rattle.std.proofs.Common.{◌≡◌, ap, sym, subst, ◌∙◌, Bool, true, false, ◌||◌, List, [], ◌∷◌, map, ⊎_elim}
+use Rattle.std.proofs.Common.{◌≡◌, ap, sym, subst, ◌∙◌, Bool, true, false, ◌&&◌, ◌||◌, List, [], ◌∷◌, map, ⊎_elim}
 use Rattle.std.specs.Prelude.{if◌then◌else◌}
 use Rattle.std.specs.List.{list_any}
 use Rattle.std.proofs.lemmas.Bool.{or_cases, or_left, or_right}
@@ -21,10 +21,10 @@ use Rattle.sf_validity.specs.Beside.{box_of_extent}
 use Rattle.sf_relate.specs.Contact.{in_extent}
 use Rattle.sf_relate.proofs.CommonBoxLaws.{has-ends, in-common}
 use Rattle.sf_relate.proofs.EnvelopeLaws.{lies_in_box, valid-closed}
-use Rattle.sf_contact.specs.Absence.{has_start_in, on_edges}
+use Rattle.sf_contact.specs.Absence.{has_start_in, is_lines, on_edges}
 use Rattle.sf_contact.specs.EdgeContact.{Share}
 use Rattle.sf_contact.proofs.PairLaws.{edges-in}
-use Rattle.sf_contact.proofs.StartLaws.{IsContact, contact-by-any, contact-by-shared}
+use Rattle.sf_contact.proofs.StartLaws.{IsContact, contact-by-any, contact-by-shared, contact-of-lines}
 
 -- ---- the edges whose boxes meet a box
 abbrev near : Extent → List Edge → List Edge
@@ -89,11 +89,22 @@ contact-by-found a b f g box outcome first second answers found =
     (subst (λ x. Share (on_edges x) (on_edges g)) first
     (shared-by-near f g box (subst (Answers (ShareOne (near box (edges_of f)) (near box (edges_of g)))) found answers))))
 
+apart-by-absent : (a b f g : Geometry) (box : Extent) (outcome : Outcome) → IsValid a → IsValid b → f ≡ a → g ≡ b → box ≡ common_extent (envelope_of f) (envelope_of g) →
+    Answers (ShareOne (near box (edges_of f)) (near box (edges_of g))) outcome → outcome ≡ Absent → ¬ (Share (on_edges a) (on_edges b))
+apart-by-absent a b f g box outcome va vb first second is answers absent =
+    subst (λ y. ¬ (Share (on_edges a) (on_edges y))) second
+    (subst (λ x. ¬ (Share (on_edges x) (on_edges g))) first
+    (λ s. subst (Answers (ShareOne (near box (edges_of f)) (near box (edges_of g)))) absent answers
+    (near-by-shared f g box (subst IsValid (sym first) va) (subst IsValid (sym second) vb) is s)))
+
 pub contact-by-absent : (a b f g : Geometry) (box : Extent) (outcome : Outcome) → IsValid a → IsValid b → f ≡ a → g ≡ b → box ≡ common_extent (envelope_of f) (envelope_of g) →
     Answers (ShareOne (near box (edges_of f)) (near box (edges_of g))) outcome → outcome ≡ Absent → IsContact (has_start_in a b || has_start_in b a) a b
 contact-by-absent a b f g box outcome va vb first second is answers absent =
-    contact-by-any a b va vb
-    (subst (λ y. ¬ (Share (on_edges a) (on_edges y))) second
-    (subst (λ x. ¬ (Share (on_edges x) (on_edges g))) first
-    (λ s. subst (Answers (ShareOne (near box (edges_of f)) (near box (edges_of g)))) absent answers
-    (near-by-shared f g box (subst IsValid (sym first) va) (subst IsValid (sym second) vb) is s))))
+    contact-by-any a b va vb (apart-by-absent a b f g box outcome va vb first second is answers absent)
+
+-- where both are of lines, their edges alone
+pub contact-of-lines-absent : (a b f g : Geometry) (box : Extent) (outcome : Outcome) → IsValid a → IsValid b → f ≡ a → g ≡ b → (is_lines f && is_lines g) ≡ true → box ≡ common_extent (envelope_of f) (envelope_of g) →
+    Answers (ShareOne (near box (edges_of f)) (near box (edges_of g))) outcome → outcome ≡ Absent → IsContact false a b
+contact-of-lines-absent a b f g box outcome va vb first second lines is answers absent =
+    contact-of-lines a b (sym (ap (λ x. is_lines x && is_lines g) first ∙ ap (λ y. is_lines a && is_lines y) second) ∙ lines)
+    (apart-by-absent a b f g box outcome va vb first second is answers absent)

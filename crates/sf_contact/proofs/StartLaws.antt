@@ -1,7 +1,7 @@
 -- A part that begins in the other geometry is contact; where none does, the edges decide.
-use Rattle.std.proofs.Common.{subst, ◌≡◌, refl, ap, sym, ◌∙◌, arith, ℕ, Bool, true, false, ◌||◌, List, [], ◌∷◌, ◌++◌, length, nat_lt, ⊎_elim}
+use Rattle.std.proofs.Common.{subst, ◌≡◌, refl, ap, sym, ◌∙◌, arith, ℕ, Bool, true, false, ◌&&◌, ◌||◌, List, [], ◌∷◌, ◌++◌, length, nat_lt, ⊎_elim}
 use Rattle.std.specs.List.{AllByRecursion, flat_map, list_any}
-use Rattle.std.proofs.lemmas.Bool.{both_ways, false_from_ne_true, or_cases, or_left, or_parts, or_right}
+use Rattle.std.proofs.lemmas.Bool.{and_parts, both_ways, false_from_ne_true, or_cases, or_left, or_parts, or_right}
 use Rattle.std.proofs.lemmas.List.Folds.{list_any-append}
 use Rattle.sf_grid.specs.Plane.{Coordinates, grid_point, same_point}
 use Rattle.sf_grid.specs.Edge.{on_edge}
@@ -19,14 +19,16 @@ use Rattle.sf_valid_rules.proofs.MemberLaws.{each-of_flat}
 use Rattle.sf_plane.proofs.CombineLaws.{start_on_edge}
 use Rattle.sf_interiors.proofs.SlantLaws.{is_grid}
 use Rattle.sf_relate.specs.Contact.{SharePoint, is_in}
+use Rattle.sf_relate.specs.declared.shape.Shape.TheVariants.{Lines}
+use Rattle.sf_relate.specs.Places.{shape_of}
 use Rattle.sf_contact.specs.EdgeContact.{Share}
 use Rattle.sf_relate.specs.Matrices.{matrix_of}
 use Rattle.sf_known.specs.Patterns.{has_contact}
 use Rattle.sf_relate.proofs.PlaceLaws.{tight-of}
 use Rattle.sf_relate.proofs.SharedLaws.{contact_is_shared}
-use Rattle.sf_contact.specs.Absence.{begins_in, has_start_in, on_edges}
+use Rattle.sf_contact.specs.Absence.{begins_in, has_start_in, is_lines, on_edges}
 use Rattle.sf_contact.specs.Pairs.{Tells}
-use Rattle.sf_contact.proofs.AbsenceLaws.{absence_is_decided}
+use Rattle.sf_contact.proofs.AbsenceLaws.{absence_is_decided, lines-on}
 use Rattle.sf_contact.proofs.PairLaws.{edges-in}
 
 -- ---- lines and rings of valid geometries have edges
@@ -174,6 +176,28 @@ contact-by-any a b va vb apart = by_starts (has_start_in a b) (has_start_in b a)
     by_starts true second is_first is_second = contact-by-start a b va is_first
     by_starts false true is_first is_second = contact-by-other a b vb is_second
     by_starts false false is_first is_second = contact-by-edges a b false va vb is_first is_second apart
+
+-- lines whose edges share no point have no contact, wherever they begin
+of-lines : (a : Geometry) → is_lines a ≡ true → shape_of a ≡ Lines
+of-lines (LineString ps) is = refl
+of-lines (MultiLineString lines) is = refl
+of-lines (Point p) is = absurd (both_ways false refl is)
+of-lines (MultiPoint ps) is = absurd (both_ways false refl is)
+of-lines (Polygon rings) is = absurd (both_ways false refl is)
+of-lines (MultiPolygon polygons) is = absurd (both_ways false refl is)
+
+pub contact-of-lines : (a b : Geometry) → (is_lines a && is_lines b) ≡ true → ¬ (Share (on_edges a) (on_edges b)) → IsContact false a b
+contact-of-lines a b lines apart =
+    let both = and_parts (is_lines a) (is_lines b) lines in
+    none a b
+    (λ s.
+    apart
+    (record {
+      q = s.q;
+      is_point = s.is_point;
+      in_first = lines-on a s.q (of-lines a both.0) s.is_point s.in_first;
+      in_second = lines-on b s.q (of-lines b both.1) s.is_point s.in_second;
+    }))
 
 -- whether edges share a point, and whether a part begins in the other where they don't
 pub contact-by-met : (a b : Geometry) (met told : Bool) → Tells met (on_edges a) (on_edges b) → met ≡ true → told ≡ met → IsContact told a b

@@ -1,11 +1,11 @@
 -- Internal: who wants to trust the program need not read this file.
 -- When two geometries share no point: what edges and first points show of it.
-use Rattle.std.specs.Prelude.{Bool, false, ◌||◌, List, [], ◌∷◌, IsFalse}
+use Rattle.std.specs.Prelude.{Bool, true, false, ◌||◌, List, [], ◌∷◌, IsFalse}
 use Rattle.std.specs.List.{list_any}
 use Rattle.sf_grid.specs.Plane.{Coordinates, Point as PlanePoint, grid_point}
 use Rattle.sf_grid.specs.Edge.{on_edge}
 use Rattle.sf_geometry.specs.declared.geometry.Geometry.{Geometry}
-use Rattle.sf_geometry.specs.declared.geometry.Geometry.TheVariants.{Point, MultiPoint}
+use Rattle.sf_geometry.specs.declared.geometry.Geometry.TheVariants.{LineString, MultiLineString, MultiPoint, Point}
 use Rattle.sf_geometry.specs.Parts.{edges_of, lists_of}
 use Rattle.sf_valid_rules.specs.Validity.{IsValid}
 use Rattle.sf_relate.specs.Contact.{is_in}
@@ -15,6 +15,12 @@ use Rattle.sf_relate.specs.ByKinds.{ShareNone}
 -- q is on an edge of a line or ring of the geometry; points have none
 abbrev pub on_edges : Geometry → PlanePoint → Bool
 on_edges geometry q = list_any (λ e. on_edge e q) (edges_of geometry)
+
+-- it is one line or several
+abbrev pub is_lines : Geometry → Bool
+is_lines (LineString points) = true
+is_lines (MultiLineString lines) = true
+is_lines geometry = false
 
 -- no point of the plane is on an edge of each
 abbrev pub EdgesAreApart : Geometry → Geometry → Type 0

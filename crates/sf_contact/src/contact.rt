@@ -1,10 +1,10 @@
 //! Whether two geometries have contact, where that is known without a walk.
 
-ghost use Rattle.std.specs.Prelude.{◌≡◌, true, ◌||◌, IfSome, IsTrue, is_some, nat_le};
+ghost use Rattle.std.specs.Prelude.{◌≡◌, true, ◌&&◌, ◌||◌, IfSome, IsTrue, is_some, nat_le};
 ghost use Rattle.sf_geometry.specs.Size.{point_count};
 ghost use Rattle.sf_relate.specs.Matrices.{matrix_of};
 ghost use Rattle.sf_known.specs.Patterns.{has_contact};
-ghost use Rattle.sf_contact.specs.Absence.{has_start_in};
+ghost use Rattle.sf_contact.specs.Absence.{has_start_in, is_lines};
 ghost use Rattle.sf_contact.specs.Few.{few_points};
 
 use super::edges::edges_meet;
@@ -12,8 +12,6 @@ use super::starts::has_start_in;
 use sf_crossing::find_sharing;
 use sf_edge_tree::Outcome;
 use sf_geometry::{Geometry, Sequence};
-use sf_plane::Dim;
-use sf_relate::dimension;
 use sf_validity::Valid;
 use std::alloc::Global;
 
@@ -21,14 +19,14 @@ use std::alloc::Global;
 /// more, trees of edges, or a walk, find contact sooner.
 pub const FEW_POINTS: usize = 16;
 
-/// How many parts each of two geometries has at most for the first point of each part to be looked for in the other: that
-/// takes a pass over the other for each part, and with more of them a walk takes less.
+/// How many parts each of two geometries has at most for the first point of each part to be looked for in the other, unless
+/// both are of lines: that takes a pass over the other for each part, and with more of them a walk takes less.
 const FEW_PARTS: usize = 64;
 
 /// Whether two geometries have contact, as `intersects` asks and `disjoint` denies it. Where one of the two is small each
 /// of its edges is tried with those of the other near it, which takes no memory. Where both have more points, trees of
 /// their edges find two that share a point; `None` where that search takes long, or finds no memory, and where no edges
-/// share a point and one of the two has many parts.
+/// share a point, one of the two has many parts, and not both are of lines.
 pub fn contact_between(alloc: Global, a: &Valid, b: &Valid) -> Option<bool>
     ensures holds { IfSome result (λ answer. answer ≡ has_contact (matrix_of a.now b.now)) }
     ensures few { IsTrue (nat_le (point_count b.now) few_points || nat_le (point_count a.now) few_points) → is_some result ≡ true }
@@ -50,12 +48,32 @@ fn contact_of_many(alloc: Global, a: &Valid, b: &Valid) -> Option<bool>
     let first = a.geometry();
     let second = b.geometry();
     let common = first.envelope().common(second.envelope());
-    let are_few = has_few_parts(first) && has_few_parts(second);
     match find_sharing(alloc, first, second, &common) {
         Ok(Outcome::Found) => Some(true),
-        Ok(Outcome::Absent) if are_few => Some(has_any_start(a, b)),
+        // What is in lines is on an edge of theirs.
+        Ok(Outcome::Absent) if are_lines(first, second) => Some(false),
+        Ok(Outcome::Absent) if has_few_parts(first) && has_few_parts(second) => {
+            Some(has_any_start(a, b))
+        }
         Ok(_) | Err(_) => None,
     }
+}
+
+/// Whether both geometries are of lines.
+fn are_lines(a: &Geometry, b: &Geometry) -> bool
+    ensures { result ≡ (is_lines a.now && is_lines b.now) }
+{
+    is_of_lines(a) && is_of_lines(b)
+}
+
+/// Whether a geometry is one line or several.
+fn is_of_lines(geometry: &Geometry) -> bool
+    ensures { result ≡ is_lines geometry.now }
+{
+    matches!(
+        geometry,
+        Geometry::LineString(_) | Geometry::MultiLineString(_)
+    )
 }
 
 /// Whether a geometry is of at most [`FEW_PARTS`] points, lines or polygons, and each polygon of as many rings.
@@ -91,7 +109,7 @@ fn have_contact(a: &Valid, b: &Valid) -> bool
 {
     let first = a.geometry();
     let second = b.geometry();
-    if dimension(first) == Dim::One && dimension(second) == Dim::One {
+    if are_lines(first, second) {
         return edges_meet(first, second) || has_any_start(a, b);
     }
     has_any_start(a, b) || edges_meet(first, second)

@@ -1,13 +1,24 @@
 -- The edges of a ring two at a time: those of its tight list meet just where the numbered ones do.
-use Rattle.std.proofs.Common.{◌≡◌, ap, sym, ◌∙◌, subst, ℕ, ◌+◌, ◌<◌, ◌≤◌, arith, List, length, map, slice_index_or, get_or}
+use Rattle.std.proofs.Common.{◌≡◌, ap, sym, ◌∙◌, subst, ℕ, zero, suc, ◌+◌, ◌<◌, ◌≤◌, arith, ℤ, pos, not, List, drop, length, map, slice_index_or, get_or}
+use Rattle.std.specs.Prelude.{IsTrue}
+use Rattle.std.specs.List.{zip}
+use Rattle.std.proofs.lemmas.Bool.{and_from, and_parts}
 use Rattle.std.proofs.lemmas.List.FromFn.{get_or-enumerate_from, length-enumerate_from}
 use Rattle.std.proofs.lemmas.List.{get_or-map, get_or_default, length-map}
 use Rattle.std.proofs.lemmas.Slice.Zip.{get_or-zip}
 use Rattle.sf_grid.specs.Plane.{Coordinates, Point}
-use Rattle.sf_grid.specs.Edge.{Edge}
+use Rattle.sf_grid.specs.Edge.{Edge, on_edge}
 use Rattle.sf_geometry.specs.Lists.{edges_between, edges_of, is_closed, tight}
 use Rattle.sf_valid_rules.specs.Conditions.{Applies, AtPoint}
-use Rattle.sf_strands.specs.Pairs.{pair_meets}
+use Rattle.sf_valid_rules.specs.Shapes.{is_joint, on_both}
+use Rattle.sf_geometry.specs.declared.extent.Extent.{Extent}
+use Rattle.sf_geometry.specs.Envelope.{extent_at, extent_with, extents_meet}
+use Rattle.sf_edge_tree.specs.declared.outcome.Outcome.{Outcome}
+use Rattle.sf_edge_tree.specs.declared.outcome.Outcome.TheVariants.{Absent}
+use Rattle.sf_edge_tree.specs.Boxes.{extent_at_edge, extent_of_edge}
+use Rattle.sf_edge_tree.specs.Searches.{Answers, HasNear}
+use Rattle.sf_strands.specs.Pairs.{edge_at, pair_meets, point_of}
+use Rattle.sf_strands.proofs.NearLaws.{ends-are, ends-within, shared-near}
 use Rattle.sf_strands.proofs.PairLaws.{any_edge, pair-is}
 use Rattle.sf_strands.proofs.PlaceLaws.{edges-more}
 use Rattle.sf_strands.proofs.NumberedLaws.{meet_apart}
@@ -121,3 +132,47 @@ pub crossings-end : (ring : Spot) (ps : List Coordinates) (es : List WrittenEdge
 crossings-end ring ps es j w h n =
     none-map (edges_meeting (ring, ps)) (pairs (placed_edges ps))
     (no_pair-all (single (edges_meeting (ring, ps))) (placed_edges ps) j (subst (λ k. k ≤ j) (sym (placed-counted es ps w)) h) n)
+
+-- an edge that meets none of the earlier ones
+one-more : (n : ℕ) → n + 1 ≡ suc n
+one-more n = omega arith
+
+pub none-earlier : (ring : Spot) (ps : List Coordinates) (es : List WrittenEdge) (j n : ℕ) → map written es ≡ written_edges ps → j < length es →
+    ((i : ℕ) → i < j → ¬ (Applies (AtPoint (pair_meets (tight ps) i j)))) → n ≤ j → NoneMeetsWith ring ps j n
+none-earlier ring ps es j zero w h apart l = tt
+none-earlier ring ps es j (suc n) w h apart l =
+    subst (NoneMeetsWith ring ps j) (one-more n)
+    (crossing-more ring ps es n j w (omega (arith, l)) h (none-earlier ring ps es j n w h apart (omega (arith, l))) (apart n (omega (arith, l))))
+
+-- ---- boxes of edges that meet
+abbrev ends_between : List Coordinates → List (Coordinates × Coordinates)
+ends_between ps = zip ps (drop 1 ps)
+
+box-meets : (ps : List Coordinates) (i j : ℕ) → i < j → j + 1 < length ps → Applies (AtPoint (pair_meets ps i j)) →
+    IsTrue (extents_meet (extent_at_edge (ends_between ps) i) (extent_at_edge (ends_between ps) j))
+box-meets ps i j o h (p, is, m) =
+    let both = and_parts (on_edge (edge_at ps i) p) (on_edge (edge_at ps j) p) (and_parts (on_both (edge_at ps i) (edge_at ps j) p) (not (is_joint (is_closed ps) (length (edges_of ps)) (i, edge_at ps i) (j, edge_at ps j) p)) m).0 in
+    subst (λ e. IsTrue (extents_meet (extent_of_edge e) (extent_at_edge (ends_between ps) j))) (sym (ends-are ps i (omega (arith, o, h))))
+    (subst (λ e. IsTrue (extents_meet (extent_of_edge (point_of ps i, point_of ps (i + 1))) (extent_of_edge e))) (sym (ends-are ps j h))
+    (shared-near (edge_at ps j) (edge_at ps i) p is (and_from (on_edge (edge_at ps j) p) (on_edge (edge_at ps i) p) both.1 both.0)))
+
+abbrev any_ends : Coordinates × Coordinates
+any_ends = (record { x = pos 0; y = pos 0 }, record { x = pos 0; y = pos 0 })
+
+-- where a search among the edges near the box of one finds none that stands before it and meets it
+pub no-earlier : (ps : List Coordinates) (es read : List (Coordinates × Coordinates)) (j : ℕ) (own : Coordinates × Coordinates) (first box : Extent) (outcome : Outcome) → es ≡ ends_between ps →
+    j + 1 < length ps → read ≡ es → own ≡ get_or read j own → first ≡ extent_at own.0 → box ≡ extent_with first own.1 →
+    Answers (HasNear es box 0 (length es) (λ i. (i < j) × Applies (AtPoint (pair_meets ps i j)))) outcome → outcome ≡ Absent → (i : ℕ) → i < j → ¬ (Applies (AtPoint (pair_meets ps i j)))
+no-earlier ps es read j own first box outcome is h same here at with answers absent i o meets =
+    let ends = here ∙ ap (λ xs. get_or xs j own) (same ∙ is) ∙ get_or_default (ends_between ps) j own any_ends (ends-within ps j h) in
+    let boxed = with ∙ ap (λ e. extent_with e own.1) at ∙ ap extent_of_edge ends in
+    subst (Answers (HasNear es box 0 (length es) (λ i. (i < j) × Applies (AtPoint (pair_meets ps i j))))) absent answers
+    (record {
+      edge = i;
+      behind = omega arith;
+      before = subst (λ xs. i < length xs) (sym is) (ends-within ps i (omega (arith, o, h)));
+      near =
+          subst (λ b. IsTrue (extents_meet (extent_at_edge es i) b)) (sym boxed)
+          (subst (λ xs. IsTrue (extents_meet (extent_at_edge xs i) (extent_at_edge (ends_between ps) j))) (sym is) (box-meets ps i j o h meets));
+      passes = (o, meets);
+    })

@@ -9,3 +9,4 @@ pub mod AreaLaws
 pub mod OutsideLaws
 pub mod OverlapLaws
 pub mod FoundLaws
+pub mod BoxLaws

@@ -67,11 +67,14 @@ fn copy_of(
     Ok(Sequence::from_vec(copy))
 }
 
-/// Whether a point is inside both geometries.
+/// Whether a point is inside both geometries. Where their boxes share no point, none is.
 pub(crate) fn do_overlap(alloc: Global, a: &Valid, b: &Valid) -> Result<bool, AllocError>
     ensures { IfOk result (λ found. IsTrue found
         ↔ Applies (Condition.AtPoint (λ p. in_interior a.now p && in_interior b.now p))) }
 {
+    if !a.geometry().envelope().meets(b.geometry().envelope()) {
+        return Ok(false);
+    }
     let matrix = matrix_between(alloc, a, b)?;
     Ok(is_filled(matrix.0[0]))
 }

@@ -9,6 +9,7 @@ ghost use Rattle.sf_faults.specs.Candidates.{crossings_of};
 ghost use Rattle.sf_faults.specs.Orders.{placed_rings, spots};
 ghost use Rattle.sf_faults.specs.Places.{IsFirstAmong};
 
+use crate::earlier::{edge_tree, meets_no_earlier};
 use crate::edges::edges_of;
 use crate::place::{Place, Spot};
 use crate::spots::ring_at;
@@ -35,16 +36,22 @@ pub(crate) fn first_crossing(
     Ok(None)
 }
 
-/// The first two edges of a ring that meet: the first one that meets an earlier one, and the first of those.
+/// The first two edges of a ring that meet: the first one that meets an earlier one, and the first of those. Most meet none, which
+/// the boxes of edges tell; so a pass over all earlier ones is made once at most.
 fn crossing_in(alloc: Global, ring: Spot, points: &[GridPoint]) -> Result<Option<Place>, AllocError>
     ensures { IfOk result (IsFirstAmong (crossings_of (ring, points.now))) }
 {
     let edges = edges_of(alloc, points)?;
     let edges = edges.as_slice();
-    let points = tight(alloc, points)?;
+    let kept = tight(alloc, points)?;
+    let points = kept.as_slice();
+    let tree = edge_tree(alloc, points)?;
     for second in 0..edges.len() {
+        if meets_no_earlier(&tree, points, second) {
+            continue;
+        }
         for first in 0..second {
-            if does_pair_meet(points.as_slice(), first, second) {
+            if does_pair_meet(points, first, second) {
                 return Ok(Some(Place::Edges {
                     ring,
                     first: edges[first].number,
@@ -57,7 +64,7 @@ fn crossing_in(alloc: Global, ring: Spot, points: &[GridPoint]) -> Result<Option
 }
 
 /// Whether two edges of a tight list share a point that isn't their common vertex as neighbours.
-fn does_pair_meet(points: &[GridPoint], first: usize, second: usize) -> bool
+pub(crate) fn does_pair_meet(points: &[GridPoint], first: usize, second: usize) -> bool
     requires tight { IsTight points.now }
     requires in_order { first < second }
     requires in_range { second + 1 < length points.now }

@@ -3,6 +3,7 @@
 
 mod comparing;
 mod crossings;
+mod earlier;
 mod edges;
 pub mod laws;
 mod lines;

@@ -1,7 +1,8 @@
 //! Rings that share a piece with another one, and the first edges of such rings that do.
 
-ghost use Rattle.std.specs.Prelude.{◌≡◌, ◌↔◌, IfOk, IsSome, IsTrue};
+ghost use Rattle.std.specs.Prelude.{◌≡◌, ◌↔◌, false, IfOk, IsSome, IsTrue};
 ghost use Rattle.std.specs.List.{flat_map};
+ghost use Rattle.sf_geometry.specs.Envelope.{extent_of, extents_meet};
 ghost use Rattle.sf_valid_rules.specs.Conditions.{Applies, Condition};
 ghost use Rattle.sf_faults.specs.Candidates.{share_two, shared_by};
 ghost use Rattle.sf_faults.specs.Orders.{pairs, placed_rings, ring_of, spots};
@@ -12,7 +13,7 @@ use crate::edges::edges_of;
 use crate::place::{Place, Spot};
 use crate::spots::ring_at;
 use crate::written_edge::WrittenEdge;
-use sf_geometry::Sequence;
+use sf_geometry::{Extent, Sequence};
 use sf_grid::edges::meet;
 use sf_grid::{GridPoint, Meet};
 use std::alloc::{AllocError, Global};
@@ -38,7 +39,7 @@ pub(crate) fn first_sharing(
     Ok(None)
 }
 
-/// The first edges of two rings that share a piece.
+/// The first edges of two rings that share a piece. Where the boxes of the rings share no point, none do.
 fn rings_sharing(
     alloc: Global,
     polygons: &[Sequence<Sequence<GridPoint>>],
@@ -49,14 +50,29 @@ fn rings_sharing(
     requires second { IsSome (ring_of polygons.now second) }
     ensures { IfOk result (AreRingsSharing polygons.now first second) }
 {
-    let first_edges = edges_of(alloc, ring_at(polygons, first))?;
-    let second_edges = edges_of(alloc, ring_at(polygons, second))?;
+    let first_ring = ring_at(polygons, first);
+    let second_ring = ring_at(polygons, second);
+    if are_apart(first_ring, second_ring) {
+        return Ok(None);
+    }
+    let first_edges = edges_of(alloc, first_ring)?;
+    let second_edges = edges_of(alloc, second_ring)?;
     Ok(edges_sharing(
         first,
         first_edges.as_slice(),
         second,
         second_edges.as_slice(),
     ))
+}
+
+/// Whether the boxes of two rings share no point.
+fn are_apart(a: &[GridPoint], b: &[GridPoint]) -> bool
+    ensures { IsTrue result → extents_meet (extent_of a.now) (extent_of b.now) ≡ false }
+{
+    match (Extent::of_points(a), Extent::of_points(b)) {
+        (Some(first), Some(second)) => !first.meets(second),
+        _ => false,
+    }
 }
 
 /// The first of these edges that share a piece: the first one of the second ring, and with it the first one of the

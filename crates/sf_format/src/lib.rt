@@ -12,7 +12,7 @@ pub use defect::Defect;
 pub use range_ends::RangeEnds;
 pub use rule_form::{DemandForm, RuleForm};
 pub use sf_ruled_store::{
-    AllowedValues, Ask, Demand, Form, LayerRule, PairAsk, Refusal as StepRefusal, Rule, Ruled,
-    Rules as KeptRules, Says, VALUES_MAX, ValueRule,
+    AllowedValues, Ask, BoxedRange, Demand, Form, LayerRule, PairAsk, Refusal as StepRefusal, Rule,
+    Ruled, Rules as KeptRules, Says, VALUES_MAX, ValueRule,
 };
 pub use version::Version;

@@ -14,7 +14,7 @@ use super::values::{
 };
 use sf_decimals::Number;
 use sf_features::{AttrValue, ColumnType};
-use sf_format::{AllowedValues, Defect, Demand, DemandForm, RangeEnds, VALUES_MAX};
+use sf_format::{AllowedValues, BoxedRange, Defect, Demand, DemandForm, RangeEnds, VALUES_MAX};
 use sf_layers::ValueRange;
 use sf_streams::Window;
 use std::alloc::Global;
@@ -244,7 +244,7 @@ fn in_range<R: Read>(
         (R.remaining reader.new) window.old window.new result }
 {
     let range = allowed_range(alloc, window, reader, column_type)?;
-    Ok(Demand::InRange(range))
+    Ok(Demand::InRange(BoxedRange::new(alloc, range)?))
 }
 
 /// What a rule of a form demands of the values in a column of a type.

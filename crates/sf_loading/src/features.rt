@@ -1,5 +1,5 @@
 //! The features of a layer.
-ghost use Rattle.std.specs.Prelude.{◌≡◌, ◌&&◌, ◌≤◌, ◌<◌, [], nat_le, nat_lt, length, IfOk};
+ghost use Rattle.std.specs.Prelude.{◌≡◌, ◌&&◌, ◌<◌, [], nat_le, nat_lt, length, IfOk};
 ghost use Rattle.sf_wkb.specs.Grammar.{read_in};
 ghost use Rattle.sf_layers.specs.WellFormed.{IsFeature, IsLayer};
 ghost use Rattle.sf_format.specs.declared.defect.Defect.TheVariants.{IdsExhausted, NoColumn};

@@ -19,9 +19,17 @@ use sf_query::Refusal;
 use sf_validity::Valid;
 use std::alloc::{AllocError, Global};
 
-/// Around a geometry the features within one grid step are looked at first, then within four times as much while there is none, and
-/// then within twice as much each time; so often at most.
-const REACHES: u32 = 33;
+/// How often at most the features within some reach are looked at, each time within at least one and a half times as much: all that
+/// the grid has are within the last.
+const REACHES: u32 = 64;
+
+/// In quarters, by how much the reach grows at least and at most.
+const LEAST_QUARTERS: usize = 6;
+
+const MOST_QUARTERS: usize = 16;
+
+/// How many times as many features as are asked for are expected within the next reach, in sixteenths.
+const EXPECTED: usize = 22;
 
 /// The features of a layer that are nearest to the given geometry, so many at most, by their distance, of all points of the plane that
 /// are not in an exterior; those at one distance by their identifiers. Fewer are told only where the layer has fewer.
@@ -47,7 +55,7 @@ pub fn nearest_to(
 }
 
 /// The identifiers of features among which the nearest are: of all that are within some reach, which are so many at least, or of all
-/// that the layer has.
+/// that the layer has. The first reach is one grid step.
 ///
 /// # Errors
 ///
@@ -70,11 +78,28 @@ fn enough_ids(
                 if count <= ids.len() {
                     return Ok(ids);
                 }
-                thousandths *= if ids.is_empty() { 4 } else { 2 };
+                thousandths = farther(thousandths, ids.len(), count);
             }
         }
     }
     all_ids(alloc, layer)
+}
+
+/// The next reach, in thousandths of a grid step, where so many features were found within this one and so many are asked for: as far
+/// as some more than those are expected, if features are as many everywhere.
+fn farther(thousandths: u64, found: usize, count: usize) -> u64 {
+    let wanted = count.saturating_mul(EXPECTED);
+    for quarters in LEAST_QUARTERS..MOST_QUARTERS {
+        if found.saturating_mul(quarters).saturating_mul(quarters) >= wanted {
+            return grown_by(thousandths, quarters);
+        }
+    }
+    grown_by(thousandths, MOST_QUARTERS)
+}
+
+/// So many quarters of a reach.
+fn grown_by(thousandths: u64, quarters: usize) -> u64 {
+    thousandths.saturating_mul(quarters as u64) / 4
 }
 
 /// The identifiers of all features of a layer.

@@ -38,6 +38,10 @@ const MANY_POINTS: usize = 32;
 /// fewer takes as little.
 const COVER_POINTS: usize = 64;
 
+/// How many lines the two geometries have together at most for the places of all their ends to be looked for: that takes a pass over both
+/// for each end, and with more of them a walk takes less.
+const FEW_LINES: usize = 128;
+
 /// Where contact is asked for by name, a first point shows it soonest where both geometries are large, and edges that meet show it, or
 /// that there is none, of small ones and of large ones.
 static OF_CONTACT: [Evidence; 4] = [Place, Points, Starts, Edges];
@@ -95,7 +99,8 @@ impl Evidence {
         match self {
             Crossing => known.most[0] != Dim::Nothing,
             Cover => !has_entry(known) && more_points(geometry, given) >= COVER_POINTS,
-            Ends | Along => has_entry(known),
+            Ends => has_entry(known) && has_few_lines(geometry, given),
+            Along => has_entry(known),
             Starts | Edges => !shows_contact(known),
             Nearby => {
                 let points = geometry.geometry().point_count();
@@ -115,6 +120,20 @@ fn has_entry(known: &Known) -> bool {
 fn shows_contact(known: &Known) -> bool {
     let [ii, ib, _, bi, bb, ..] = known.least;
     known.contact || [ii, ib, bi, bb].iter().any(|entry| *entry != Dim::Nothing)
+}
+
+/// Whether the two geometries have at most [`FEW_LINES`] lines together.
+fn has_few_lines(geometry: &Valid, given: &Given) -> bool {
+    line_count(geometry.geometry()).saturating_add(line_count(given.valid.geometry())) <= FEW_LINES
+}
+
+/// How many lines a geometry has; points and areas have none.
+fn line_count(geometry: &Geometry) -> usize {
+    match geometry {
+        Geometry::LineString(_) => 1,
+        Geometry::MultiLineString(lines) => lines.as_slice().len(),
+        _ => 0,
+    }
 }
 
 /// How many points the larger of two geometries has.

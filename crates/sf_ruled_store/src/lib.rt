@@ -20,7 +20,8 @@ pub use ruled::Ruled;
 pub use rules::{RULES_MAX, Rules};
 pub use sf_groups::Group;
 pub use sf_rules::{
-    AllowedValues, Ask, Break, Demand, Form, LayerRule, PairAsk, Rule, Says, VALUES_MAX, ValueRule,
+    AllowedValues, Ask, BoxedRange, Break, Demand, Form, LayerRule, PairAsk, Rule, Says,
+    VALUES_MAX, ValueRule,
 };
 pub use sf_steps::{Answer, Edit};
 pub use undo::Undo;

@@ -6,6 +6,7 @@ mod allowed_values;
 mod alone;
 mod at_one;
 mod between;
+mod boxed_range;
 mod breaks;
 mod column;
 mod digested;
@@ -20,6 +21,7 @@ mod whole;
 
 pub use allowed_values::{AllowedValues, VALUES_MAX};
 pub use at_one::first_broken_at;
+pub use boxed_range::BoxedRange;
 pub use breaks::{Break, Broken};
 pub use exchanging::{NotExchanged, exchange_under, make_indexes};
 pub use rule::{Demand, Form, LayerRule, Rule, Says, ValueRule};

@@ -3,6 +3,7 @@ ghost use Rattle.sf_features.specs.declared.column_type.ColumnType.{ColumnType};
 ghost use Rattle.sf_rules.specs.Rules.{fits_type, is_end as is_end_of, is_range as is_range_of, is_wrong as is_wrong_by};
 
 use super::allowed_values::AllowedValues;
+use super::boxed_range::BoxedRange;
 use sf_joins::PairAsk;
 use sf_layers::{AttrValue, ColumnType, Text, ValueRange};
 use std::alloc::{AllocError, Global};
@@ -54,7 +55,7 @@ pub enum Demand {
     /// Each value is one of these, 1 to 1,000 values of the column's type.
     OneOf(AllowedValues),
     /// Each value is in this range, whose ends are of the column's type. It has an end, and no first one behind the second.
-    InRange(ValueRange),
+    InRange(BoxedRange),
 }
 
 impl Demand {
@@ -65,7 +66,7 @@ impl Demand {
         match self {
             Demand::Unique | Demand::Required => true,
             Demand::OneOf(allowed) => allowed.are_of_type(column_type),
-            Demand::InRange(range) => is_range(column_type, range),
+            Demand::InRange(range) => is_range(column_type, range.range()),
         }
     }
 
@@ -76,7 +77,7 @@ impl Demand {
         match (self, found) {
             (Demand::Required, None) => true,
             (Demand::OneOf(allowed), Some(value)) => !allowed.contain(value),
-            (Demand::InRange(range), Some(value)) => !range.contains(value),
+            (Demand::InRange(range), Some(value)) => !range.range().contains(value),
             _ => false,
         }
     }
@@ -93,12 +94,21 @@ impl Demand {
             Demand::Unique => Demand::Unique,
             Demand::Required => Demand::Required,
             Demand::OneOf(allowed) => Demand::OneOf(allowed.copy(alloc)?),
-            Demand::InRange(range) => Demand::InRange(ValueRange {
-                from: copy_of(alloc, &range.from)?,
-                to: copy_of(alloc, &range.to)?,
-            }),
+            Demand::InRange(range) => {
+                Demand::InRange(BoxedRange::new(alloc, range_copied(alloc, range.range())?)?)
+            }
         })
     }
+}
+
+/// A copy of a range.
+fn range_copied(alloc: Global, range: &ValueRange) -> Result<ValueRange, AllocError>
+    ensures { IfOk result (λ copy. copy ≡ range.now) }
+{
+    Ok(ValueRange {
+        from: copy_of(alloc, &range.from)?,
+        to: copy_of(alloc, &range.to)?,
+    })
 }
 
 /// Whether a range has an end, each is of a type, and the first is not behind the second.

@@ -132,6 +132,6 @@ pub(crate) fn put_demand<W: Write>(
         Demand::Unique => Ok(()),
         Demand::Required => Ok(()),
         Demand::OneOf(allowed) => put_allowed(output, writer, allowed.as_slice()),
-        Demand::InRange(range) => put_range(output, writer, range),
+        Demand::InRange(range) => put_range(output, writer, range.range()),
     }
 }
