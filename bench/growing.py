@@ -33,7 +33,8 @@ PREDICATES = ("equals", "disjoint", "intersects", "touches", "within", "contains
 BY_CROSSINGS = 1.3
 # Parts of a MultiPolygon, and holes, are told apart by a pass over all of them for each.
 BY_PARTS = 1.4
-# The ends of many lines are looked for by a pass over all edges for each, and all pairs of long slanted edges for the least distance.
+# The box of a long slanted edge meets those of many others: each is looked at by a search, and all pairs for the least distance.
+BY_LONG_EDGES = 1.6
 BY_PAIRS = 2.7
 LINES_APART, LINES_IN_RING = "lines side by side, none of which meets another", "lines side by side, and a ring across them"
 COMBS, HOLES = "two combs, each across the teeth of the other", "a polygon with holes, and squares in these"
@@ -48,8 +49,9 @@ ABOVE = {
         (HOLES, ALL_OF_PAIRS[1:], BY_PARTS),
         ("squares in rows", ("read", "edited"), BY_PARTS),
         ("a polygon with holes", ("read", "edited"), BY_PARTS),
-        (LINES_APART, ALL_OF_PAIRS, BY_PAIRS),
-        (LINES_IN_RING, ("relate", "predicates"), BY_PAIRS),
+        (LINES_APART, ("distances",), BY_PAIRS),
+        (LINES_APART, ("relate", "predicates"), BY_LONG_EDGES),
+        (LINES_IN_RING, ("relate", "predicates"), BY_LONG_EDGES),
     )
     for asked in kinds
 }
