@@ -397,7 +397,7 @@ class Others(DatabaseCase):
                 self.assertIn(words, self.refused(self.store, self.target, "--overwrite"))
                 self.assertEqual(self.ask("SELECT n, ST_AsText(geom) FROM w ORDER BY n"), before)
         # An addition leaves members out too.
-        self.ask(f"DROP TABLE w; CREATE TABLE w (id serial PRIMARY KEY, n int, geom geometry); INSERT INTO w (n, geom) VALUES (7, 'POINT(7 7)')")
+        self.ask("DROP TABLE w; CREATE TABLE w (id serial PRIMARY KEY, n int, geom geometry); INSERT INTO w (n, geom) VALUES (7, 'POINT(7 7)')")
         self.assertEqual(bring_in(self.target, self.store, *PLAIN[:4], "--overwrite")[0], 0)
         self.ask(f"DELETE FROM w; {rows}")
         self.assertEqual(bring_in(self.target, self.store, "--add", "--part-collections")[0], 1)
